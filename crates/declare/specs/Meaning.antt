@@ -1,0 +1,129 @@
+-- What the 24 templates mean on a trace (document 01: a run), after its section of that name.
+-- Assumes nothing.
+use Prim.Native.Nat.{ℕ, suc, _+_, _-_}
+use mathlib.Core.Bool.{Bool, true, false, not}
+use mathlib.Core.List.{List, [], _∷_, _++_}
+use lib.Dec.{eqb, leb, ltb}
+use lib.ListN.{length, getD}
+use Rattle.declare.specs.declared.Verdict.{Verdict}
+use Rattle.declare.specs.declared.Verdict.the-variants.{Fulfilled, NotActivated, Violated}
+use Rattle.declare.specs.Logic.{_and_, _or_, _implies_, if_then_else_}
+
+-- A test of a place of a trace: of what comes before it, the activity there, and what comes after it.
+abbrev pub Test : Type 0
+Test = List ℕ → ℕ → List ℕ → Bool
+
+abbrev pub each-on : List ℕ → List ℕ → Test → Bool
+each-on before [] p = true
+each-on before (x ∷ after) p = p before x after and each-on (before ++ (x ∷ [])) after p
+
+abbrev pub some-on : List ℕ → List ℕ → Test → Bool
+some-on before [] p = false
+some-on before (x ∷ after) p = p before x after or some-on (before ++ (x ∷ [])) after p
+
+-- the test passes at each place of the trace
+abbrev pub each : List ℕ → Test → Bool
+each trace p = each-on [] trace p
+
+-- the test passes at some place of the trace
+abbrev pub some : List ℕ → Test → Bool
+some trace p = some-on [] trace p
+
+abbrev pub occurs : ℕ → List ℕ → Bool
+occurs a trace = some trace (λ before x after. eqb x a)
+
+-- how often a occurs
+abbrev pub times : ℕ → List ℕ → ℕ
+times a [] = 0
+times a (x ∷ trace) = if eqb x a then suc (times a trace) else times a trace
+
+abbrev pub starts-with : ℕ → List ℕ → Bool
+starts-with a [] = false
+starts-with a (x ∷ trace) = eqb x a
+
+abbrev pub ends-with : ℕ → List ℕ → Bool
+ends-with a [] = false
+ends-with a (x ∷ []) = eqb x a
+ends-with a (x ∷ (y ∷ trace)) = ends-with a (y ∷ trace)
+
+-- A template's meaning for activities a and b on a trace.
+abbrev pub Meaning : Type 0
+Meaning = ℕ → ℕ → List ℕ → Bool
+
+abbrev pub response : Meaning
+response a b trace = each trace (λ before x after. eqb x a implies occurs b after)
+
+abbrev pub alternate-response : Meaning
+alternate-response a b trace =
+    each trace (λ before x after. eqb x a implies some after (λ between y rest. eqb y b and not (occurs a between)))
+
+abbrev pub chain-response : Meaning
+chain-response a b trace = each trace (λ before x after. eqb x a implies starts-with b after)
+
+abbrev pub precedence : Meaning
+precedence a b trace = each trace (λ before x after. eqb x b implies occurs a before)
+
+abbrev pub alternate-precedence : Meaning
+alternate-precedence a b trace =
+    each trace (λ before x after. eqb x b implies some before (λ start y between. eqb y a and not (occurs b between)))
+
+abbrev pub chain-precedence : Meaning
+chain-precedence a b trace = each trace (λ before x after. eqb x b implies ends-with a before)
+
+-- the templates in the order of their numbers, 1 to 24
+unfoldable pub meanings : List Meaning
+meanings =
+    (λ a b trace. leb 1 (times a trace)) ∷
+    (λ a b trace. leb 2 (times a trace)) ∷
+    (λ a b trace. leb 3 (times a trace)) ∷
+    (λ a b trace. leb (times a trace) 0) ∷
+    (λ a b trace. leb (times a trace) 1) ∷
+    (λ a b trace. leb (times a trace) 2) ∷
+    (λ a b trace. starts-with a trace) ∷
+    (λ a b trace. ends-with a trace) ∷
+    (λ a b trace. occurs a trace or occurs b trace) ∷
+    (λ a b trace. if occurs a trace then not (occurs b trace) else occurs b trace) ∷
+    (λ a b trace. if occurs a trace then occurs b trace else not (occurs b trace)) ∷
+    (λ a b trace. not (occurs a trace and occurs b trace)) ∷
+    (λ a b trace. occurs a trace implies occurs b trace) ∷
+    response ∷
+    alternate-response ∷
+    chain-response ∷
+    precedence ∷
+    alternate-precedence ∷
+    chain-precedence ∷
+    (λ a b trace. response a b trace and precedence a b trace) ∷
+    (λ a b trace. alternate-response a b trace and alternate-precedence a b trace) ∷
+    (λ a b trace. chain-response a b trace and chain-precedence a b trace) ∷
+    (λ a b trace. each trace (λ before x after. eqb x a implies not (occurs b after))) ∷
+    (λ a b trace. each trace (λ before x after. eqb x a implies not (starts-with b after))) ∷
+    []
+
+-- what a number outside 1 to 24 means: nothing
+abbrev pub never : Meaning
+never a b trace = false
+
+unfoldable pub holds : ℕ → Meaning
+unfolding meanings
+holds template a b trace = getD (never ∷ meanings) template never a b trace
+
+abbrev pub between : ℕ → ℕ → ℕ → Bool
+between low n high = leb low n and leb n high
+
+-- 1 to 10 always; 13 to 16 when a occurs; 17 to 19 when b occurs; 11, 12 and 20 to 24 when a or b occurs
+unfoldable pub activated : ℕ → Meaning
+activated template a b trace =
+    if between 1 template 10 then true
+    else if between 13 template 16 then occurs a trace
+    else if between 17 template 19 then occurs b trace
+    else if between 11 template 12 or between 20 template 24 then occurs a trace or occurs b trace
+    else false
+
+-- the constraint is activated and holds
+unfoldable pub fulfilled : ℕ → Meaning
+fulfilled template a b trace = activated template a b trace and holds template a b trace
+
+-- fulfilled when the constraint is activated and holds, not activated (01: idle) when it is not activated, violated (01: broken) otherwise
+unfoldable pub verdict : ℕ → ℕ → ℕ → List ℕ → Verdict
+verdict template a b trace =
+    if activated template a b trace then (if holds template a b trace then Fulfilled else Violated) else NotActivated

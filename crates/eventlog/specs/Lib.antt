@@ -1,0 +1,3 @@
+pub mod Calls
+pub mod Checks
+pub mod Store
