@@ -1,0 +1,114 @@
+-- All that findrules does between its input and its output (document 01: the program findrules).
+-- Assumes nothing.
+use Prim.Native.Nat.{ℕ, _*_}
+use mathlib.Core.Path.{_≡_}
+use mathlib.Core.Bool.{Bool, not}
+use mathlib.Core.List.{List, [], _∷_, _++_}
+use lib.Dec.{eqb, leb, ltb}
+use lib.ListN.{length, getD, drop, replicate}
+use lib.Seq.{slice}
+use Rattle.declare.specs.Logic.{_and_}
+use Rattle.eventlog.specs.Checks.{Check, _refuses_with_, Reply, gives, refused, reply, when-passed}
+use Rattle.eventlog.specs.Store.{Memory}
+use Rattle.eventlog.specs.Calls.{open-checks}
+use Rattle.columns.specs.Field.{line-feed, well-formed, value}
+use Rattle.columns.specs.Log.{Onto, log-checks, spelled}
+use Rattle.columns.specs.Calls.{with-traces}
+use Rattle.discovery.specs.Calls.{find-checks, with-list}
+use Rattle.report.specs.Print.{refusal-line, found-text}
+
+abbrev pub most-input : ℕ
+most-input = 65536
+
+-- what the program lends: 6552 events, 4095 ends and 8000 constraints
+abbrev pub lent-events : ℕ
+lent-events = 6552
+
+abbrev pub lent-ends : ℕ
+lent-ends = 4095
+
+abbrev pub lent-constraints : ℕ
+lent-constraints = 8000
+
+-- ## The input: a settings line, then a log
+
+-- N in columns 1 to 3, threshold in 4 to 7, line feed; fields as in the log
+unfoldable pub settings-laid-out : List ℕ → Bool
+settings-laid-out input =
+    leb 8 (length input) and well-formed (slice 0 3 input) and well-formed (slice 3 7 input) and eqb (getD input 7 0) line-feed
+
+unfoldable pub activities-set : List ℕ → ℕ
+activities-set input = value (slice 0 3 input)
+
+unfoldable pub threshold-set : List ℕ → ℕ
+threshold-set input = value (slice 3 7 input)
+
+abbrev pub log-of : List ℕ → List ℕ
+log-of input = drop 8 input
+
+-- ## The order: 12, settings malformed or cut short (4, detail 0), 2, 3, then read, then find
+
+abbrev pub threshold-check : ℕ → Check
+threshold-check threshold = not (leb 1 threshold and leb threshold 1000) refuses 3 with 0
+
+-- the log is read onto an empty one, into all that is lent
+abbrev pub onto-empty : ℕ → Onto
+onto-empty n = record { activities = n; room = record { events = lent-events; ends = lent-ends }; count = 0; last = 0 }
+
+-- the checks of findrules up to its find
+unfoldable pub checks-to-read : List ℕ → List Check
+checks-to-read input =
+    (ltb most-input (length input) refuses 12 with 0) ∷
+    (not (settings-laid-out input) refuses 4 with 0) ∷
+    (open-checks (activities-set input)
+    ++ threshold-check (threshold-set input) ∷ log-checks (onto-empty (activities-set input)) (log-of input))
+
+-- all of them
+unfoldable pub checks-of-report : List ℕ → List Check
+unfolding checks-to-read
+checks-of-report input =
+    checks-to-read input
+    ++ find-checks (activities-set input) (spelled (log-of input)) (threshold-set input) (replicate (4 * lent-constraints) 0)
+
+-- ## The output
+
+-- a refusal's line, or else the text
+abbrev pub printed : Reply → List ℕ → List ℕ
+printed (gives values) text = text
+printed (refused number detail) text = refusal-line number detail
+
+-- what findrules prints
+unfoldable pub output-of : List ℕ → List ℕ
+unfolding checks-of-report found-text
+output-of input =
+    printed (reply (checks-of-report input) []) (found-text (activities-set input) (threshold-set input) (spelled (log-of input)))
+
+-- ## The contract
+
+-- the lent buffers as an empty log
+abbrev pub empty-log : ℕ → List ℕ → List ℕ → Memory
+empty-log n events ends = record { store = record { activities = n; traces = 0 }; events = events; ends = ends }
+
+-- the memory that the read leaves
+unfoldable pub memory-read : List ℕ → List ℕ → List ℕ → Memory
+unfolding checks-to-read
+memory-read input events ends =
+    when-passed (checks-to-read input)
+    (with-traces (empty-log (activities-set input) events ends) (spelled (log-of input)))
+    (empty-log (activities-set input) events ends)
+
+-- the slice that is lent for the list, after the find
+unfoldable pub list-found : List ℕ → List ℕ → List ℕ
+unfolding checks-of-report
+list-found input list =
+    when-passed (checks-of-report input)
+    (with-list (activities-set input) (spelled (log-of input)) (threshold-set input) list)
+    list
+
+-- `report` writes so many bytes, and leaves the lent arrays so
+pub record Reports (input events ends list out : List ℕ) (written : ℕ) (events′ ends′ list′ out′ : List ℕ) : Type 0 where
+  pub counts : written ≡ length (output-of input)
+  pub prints : out′ ≡ output-of input ++ drop (length (output-of input)) out
+  pub leaves-events : events′ ≡ memory-read input events ends .events
+  pub leaves-ends : ends′ ≡ memory-read input events ends .ends
+  pub leaves-list : list′ ≡ list-found input list

@@ -1,0 +1,1 @@
+// All that findrules does between its input and its output.
