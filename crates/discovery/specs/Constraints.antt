@@ -7,13 +7,10 @@ use lib.Dec.{eqb, leb, ltb}
 use lib.ListN.{length}
 use Rattle.declare.specs.Logic.{_and_, _or_, if_then_else_}
 use Rattle.declare.specs.Meaning.{occurs, fulfilled, between}
+use Rattle.discovery.specs.declared.Class.{Class}
+use Rattle.discovery.specs.declared.Class.the-variants.{WithA, All, Either, Both}
+use Rattle.discovery.specs.declared.Constraint.{Constraint}
 use Rattle.discovery.specs.Lists.{those, how-many, numbers-from, for-each}
-
--- A constraint (document 01: a rule): a template's number and its activities.
-pub record Constraint : Type 0 where
-  pub template : ℕ
-  pub a : ℕ
-  pub b : ℕ
 
 -- b is a in 1 to 8, above a in 9 to 12, and not a in 13 to 24
 abbrev pub pairs : ℕ → ℕ → ℕ → Bool
@@ -39,22 +36,20 @@ meets threshold all number = leb (threshold * all) (1000 * number)
 unfoldable pub fulfilments : List (List ℕ) → Constraint → ℕ
 fulfilments traces c = how-many (fulfilled (c .template) (c .a) (c .b)) traces
 
--- The classes of pruning: by the traces with a, by all of them, by those with a or b, by those with both.
-pub data Class : Type 0 where
-  with-a all either both : Class
-
+-- the class of pruning, by the template's number; a number outside 1 to 24 is in the last one too
 abbrev pub class-of : ℕ → Class
 class-of template =
-    if between 1 template 3 or between 7 template 8 then with-a
-    else if between 4 template 6 then all
-    else if between 9 template 10 or eqb template 12 or between 23 template 24 then either
-    else both
+    if between 1 template 3 or between 7 template 8 then WithA
+    else if between 4 template 6 then All
+    else if between 9 template 10 or eqb template 12 or between 23 template 24 then Either
+    else Both
 
+-- a trace counts for a class: it has a, whatever it is, it has a or b, it has both
 abbrev pub counts-for : Class → ℕ → ℕ → List ℕ → Bool
-counts-for with-a a b trace = occurs a trace
-counts-for all a b trace = true
-counts-for either a b trace = occurs a trace or occurs b trace
-counts-for both a b trace = occurs a trace and occurs b trace
+counts-for WithA a b trace = occurs a trace
+counts-for All a b trace = true
+counts-for Either a b trace = occurs a trace or occurs b trace
+counts-for Both a b trace = occurs a trace and occurs b trace
 
 -- the traces of a constraint's class
 unfoldable pub support : List (List ℕ) → Constraint → ℕ

@@ -14,10 +14,11 @@ use Rattle.eventlog.specs.declared.OpenAnswer.{OpenAnswer}
 use Rattle.eventlog.specs.declared.AddResult.{AddResult}
 use Rattle.columns.specs.declared.ReadResult.{ReadResult}
 use Rattle.discovery.specs.declared.FindAnswer.{FindAnswer}
+use Rattle.discovery.specs.declared.Constraint.{Constraint}
 use Rattle.eventlog.specs.Calls.{Room, room, Opens, open-said, Undeclared, Adds, add-said}
 use Rattle.columns.specs.Calls.{Reads, read-said}
 use Rattle.discovery.specs.Lists.{how-many}
-use Rattle.discovery.specs.Constraints.{Constraint, pairs, trace-count, meets, fulfilments, survives, layout, listed, replayed}
+use Rattle.discovery.specs.Constraints.{pairs, trace-count, meets, fulfilments, survives, layout, listed, replayed}
 use Rattle.discovery.specs.Calls.{Finds, find-said}
 use Rattle.history.specs.Ledger.{Call, open-for, add, read, find, Shown, only, Ledger, after, shows}
 
