@@ -1,3 +1,6 @@
+ghost use mathlib.Core.Path.{_≡_};
+ghost use Rattle.declare.specs.Meaning.{occurs as occurs-in};
+ghost use Rattle.discovery.specs.Constraints.{class-of, counts-for};
 use eventlog::Refusal;
 
 // A constraint (document 01: a rule): a template's number and its activities.
@@ -24,4 +27,40 @@ pub struct Found {
 pub enum FindAnswer {
     Listed(Found),
     Refused(Refusal),
+}
+
+// The template's number settles the class; a number that is no template's is in the last one.
+fn class_of(template: u8) -> Class
+    ensures { λ r. ⌜ r ≡ class-of template ⌝ }
+{
+    match template {
+        1..=3 | 7..=8 => Class::WithA,
+        4..=6 => Class::All,
+        9..=10 | 12 | 23..=24 => Class::Either,
+        _ => Class::Both,
+    }
+}
+
+fn occurs(a: u8, trace: &[u8]) -> bool
+    ensures { λ r. ⌜ r ≡ occurs-in a (now (trace .entry)) ⌝ }
+{
+    let mut i = 0;
+    while i < trace.len() {
+        if trace[i] == a {
+            return true;
+        }
+        i += 1;
+    }
+    false
+}
+
+fn counts_for(class: Class, a: u8, b: u8, trace: &[u8]) -> bool
+    ensures { λ r. ⌜ r ≡ counts-for class a b (now (trace .entry)) ⌝ }
+{
+    match class {
+        Class::WithA => occurs(a, trace),
+        Class::All => true,
+        Class::Either => occurs(a, trace) || occurs(b, trace),
+        Class::Both => occurs(a, trace) && occurs(b, trace),
+    }
 }
