@@ -1,14 +1,13 @@
 -- Open and add: what each replies and leaves, as definitions of what it was given. The contracts cite these.
 -- Assumes nothing.
-use Prim.Native.Nat.{ℕ, suc, _+_, _-_, _≤_}
+use Prim.Native.Nat.{ℕ, _+_, _-_, _≤_}
 use mathlib.Core.Path.{_≡_}
-use mathlib.Core.Bool.{Bool, true, false, not}
-use mathlib.Core.List.{List, [], _∷_, _++_}
+use mathlib.Core.Bool.{Bool, false, not}
+use mathlib.Core.List.{List, [], _∷_}
 use lib.Dec.{eqb, leb, ltb}
 use lib.ListN.{length, getD, set}
 use lib.Seq.{sets}
 use Rattle.declare.specs.Logic.{_and_, _or_}
-use Rattle.eventlog.specs.declared.Store.{Store}
 use Rattle.eventlog.specs.declared.OpenAnswer.{OpenAnswer}
 use Rattle.eventlog.specs.declared.AddAnswer.{AddAnswer}
 use Rattle.eventlog.specs.declared.AddResult.{AddResult}

@@ -1,7 +1,7 @@
 -- The log of traces (document 01: the store of runs): the traces it keeps, and when it is sound.
 -- Assumes nothing.
-use Prim.Native.Nat.{ℕ, suc, _+_}
-use mathlib.Core.Bool.{Bool, true, false}
+use Prim.Native.Nat.{ℕ, _+_}
+use mathlib.Core.Bool.{Bool, true}
 use mathlib.Core.List.{List, [], _∷_}
 use lib.Dec.{leb, ltb}
 use lib.ListN.{length, take}
@@ -45,9 +45,12 @@ abbrev pub last-from : ℕ → List ℕ → ℕ
 last-from last [] = last
 last-from last (end ∷ ends) = last-from end ends
 
--- the last end, 0 where there is none
+-- the last of the first `count` ends, 0 where there is none
+abbrev pub last-kept : ℕ → List ℕ → ℕ
+last-kept count ends = last-from 0 (take count ends)
+
 unfoldable pub last-end : Memory → ℕ
-last-end m = last-from 0 (take (m .store .traces) (m .ends))
+last-end m = last-kept (m .store .traces) (m .ends)
 
 -- no end is below the one before it or more than 4096 above it
 abbrev pub rising : ℕ → List ℕ → Bool

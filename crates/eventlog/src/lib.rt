@@ -1,3 +1,10 @@
+ghost use mathlib.Core.Path.{_≡_};
+ghost use mathlib.Core.Bool.{true};
+ghost use Prim.Native.Nat.{_+_, _<_, _≤_};
+ghost use lib.ListN.{length, getD, take};
+ghost use Rattle.eventlog.specs.Calls.{Opens};
+ghost use Rattle.eventlog.specs.Store.{memory, last-from, last-kept, rising, all-below, sound};
+
 // The log's record (document 01: the store): how many activities are declared, and how many traces are kept.
 pub struct Store {
     pub activities: u32,
@@ -23,4 +30,119 @@ pub enum AddAnswer {
 pub struct AddResult {
     pub store: Store,
     pub answer: AddAnswer,
+}
+
+const MOST_ACTIVITIES: u32 = 32;
+
+const MOST_TRACES: u32 = 4095;
+
+const LONGEST_TRACE: u32 = 4096;
+
+// The empty record for n declared activities.
+pub fn open(n: u32) -> OpenAnswer
+    ensures { λ r. ⌜ Opens n r ⌝ }
+{
+    if n < 1 {
+        return OpenAnswer::Refused(Refusal {
+            number: 2,
+            detail: 0,
+        });
+    }
+    if MOST_ACTIVITIES < n {
+        return OpenAnswer::Refused(Refusal {
+            number: 2,
+            detail: 0,
+        });
+    }
+    OpenAnswer::Opened(Store {
+        activities: n,
+        traces: 0,
+    })
+}
+
+fn last_of(ends: &[u32]) -> u32
+    ensures { λ r. ⌜ r ≡ last-from 0 (now (ends .entry)) ⌝ }
+{
+    let count = ends.len();
+    if count == 0 {
+        return 0;
+    }
+    ends[count - 1]
+}
+
+// The last kept end, 0 where there is none. Any record and slice may come in.
+pub fn last_end(store: Store, ends: &[u32]) -> u32
+    ensures { λ r. ⌜ r ≡ last-kept (store .traces) (now (ends .entry)) ⌝ }
+{
+    let traces = store.traces;
+    let count = traces as usize;
+    if ends.len() <= count {
+        return last_of(ends);
+    }
+    last_of(&ends[..count])
+}
+
+// Whether no end is below the one before it or more than 4096 above it.
+fn ends_rise(ends: &[u32]) -> bool
+    ensures { λ r. ⌜ r ≡ rising 0 (now (ends .entry)) ⌝ }
+{
+    let mut last: u32 = 0;
+    let mut i = 0;
+    while i < ends.len() {
+        let end = ends[i];
+        if end < last {
+            return false;
+        }
+        if LONGEST_TRACE < end - last {
+            return false;
+        }
+        last = end;
+        i += 1;
+    }
+    true
+}
+
+// How many events stand before the first undeclared one: all of them where there is none.
+fn declared_front(n: u32, events: &[u8]) -> usize
+    ensures { λ r. ⌜ r ≤ length (now (events .entry)) ⌝ }
+    ensures { λ r. ⌜ all-below n (take r (now (events .entry))) ≡ true ⌝ }
+    ensures { λ r. ⌜ (r < length (now (events .entry)) → n ≤ getD (now (events .entry)) r 0) ⌝ }
+{
+    let mut i = 0;
+    while i < events.len() {
+        if n <= events[i] as u32 {
+            return i;
+        }
+        i += 1;
+    }
+    i
+}
+
+// Whether the record and the buffers are sound: one pass over the kept ends, and one over the kept events.
+pub fn is_sound(store: Store, events: &[u8], ends: &[u32]) -> bool
+    ensures { λ r. ⌜ r ≡ sound (memory store (now (events .entry)) (now (ends .entry))) ⌝ }
+{
+    let n = store.activities;
+    let traces = store.traces;
+    if n < 1 {
+        return false;
+    }
+    if MOST_ACTIVITIES < n {
+        return false;
+    }
+    if MOST_TRACES < traces {
+        return false;
+    }
+    let count = traces as usize;
+    if ends.len() < count {
+        return false;
+    }
+    if !ends_rise(&ends[..count]) {
+        return false;
+    }
+    let last = last_end(store, ends) as usize;
+    if events.len() < last {
+        return false;
+    }
+    declared_front(n, &events[..last]) == last
 }
