@@ -12,18 +12,12 @@ use lib.ListN.{length}
 use lib.Seq.{append-snoc}
 use Rattle.declare.specs.Logic.{_and_, _or_, _implies_, if_then_else_}
 use Rattle.declare.specs.Meaning.{Test, Meaning, each-on, some-on, each, some, occurs, times, starts-with, ends-with, response, alternate-response, chain-response, precedence, alternate-precedence, chain-precedence, meanings, holds, activated, fulfilled}
+use Rattle.eventlog.proofs.Laws.{and-left, and-right, and-both}
 use Rattle.discovery.specs.Lists.{those, how-many}
 use Rattle.discovery.specs.declared.Constraint.{Constraint}
 use Rattle.discovery.specs.Constraints.{class-of, counts-for, fulfilments, support, meets, trace-count, survives}
 
 -- ## Tests joined
-
-pub and-both : (p q : Bool) → (p and q) ≡ true → (p ≡ true) × (q ≡ true)
-and-both true q h = (refl, h)
-and-both false q h = absurd (false≢true h)
-
-pub both-and : {p q : Bool} → p ≡ true → q ≡ true → (p and q) ≡ true
-both-and h k = rw (h, k)
 
 implied : (p q : Bool) → (p implies q) ≡ true → p ≡ true → q ≡ true
 implied true q h k = h
@@ -109,8 +103,8 @@ module _
       some-on before trace (λ before x after. eqb x c) ≡ true → occurs d (before ++ trace) ≡ true
   each-has-on before [] h k = absurd (false≢true k)
   each-has-on before (x ∷ trace) h k =
-      let both = and-both (eqb x c implies q before x trace) _ h in
-      go (eqb x c) (both .0) k (λ k. rw (← append-snoc) (each-has-on (before ++ (x ∷ [])) trace (both .1) k))
+      let here = eqb x c implies q before x trace in
+      go (eqb x c) (and-left here _ h) k (λ k. rw (← append-snoc) (each-has-on (before ++ (x ∷ [])) trace (and-right here _ h) k))
     where
       go :
           (t : Bool) → (t implies q before x trace) ≡ true →
@@ -133,7 +127,7 @@ before-shows d before x after = occurs-before d before (x ∷ after)
 
 -- a d at which something else holds too
 some-occurs : (d : ℕ) (r : Test) (trace : List ℕ) → some trace (λ before y after. eqb y d and r before y after) ≡ true → occurs d trace ≡ true
-some-occurs d r = some-weaker _ _ (λ before y after h. and-both (eqb y d) (r before y after) h .0) []
+some-occurs d r = some-weaker _ _ (λ before y after h. and-left (eqb y d) (r before y after) h) []
 
 -- ## The 24 templates: a, b and what holds, by the way in which a template is activated
 
@@ -151,13 +145,13 @@ by-a true q r f h = f h refl
 by-a false q r f h = h
 
 by-b : (p q r : Bool) → (r ≡ true → q ≡ true → p ≡ true) → (q and r) ≡ true → (p and q) ≡ true
-by-b p q r f h = both-and (f (and-both q r h .1) (and-both q r h .0)) (and-both q r h .0)
+by-b p q r f h = and-both p q (f (and-right q r h) (and-left q r h)) (and-left q r h)
 
 by-either :
     (p q r s : Bool) → (r ≡ true → p ≡ true → q ≡ true) → (s ≡ true → q ≡ true → p ≡ true) →
     ((p or q) and (r and s)) ≡ true → (p and q) ≡ true
-by-either true q r s f g h = f (and-both r s h .0) refl
-by-either false true r s f g h = g (and-both r s h .1) refl
+by-either true q r s f g h = f (and-left r s h) refl
+by-either false true r s f g h = g (and-right r s h) refl
 by-either false false r s f g h = h
 
 module _ (a b : ℕ) (trace : List ℕ) where
@@ -201,7 +195,7 @@ Counted a b trace t = fulfilled t a b trace ≡ true → counts-for (class-of t)
 
 module _ (a b : ℕ) (trace : List ℕ) where
   activated-either : (r : Bool) → ((occurs a trace or occurs b trace) and r) ≡ true → (occurs a trace or occurs b trace) ≡ true
-  activated-either r h = and-both (occurs a trace or occurs b trace) r h .0
+  activated-either r h = and-left (occurs a trace or occurs b trace) r h
 
   -- the templates in the order of their numbers, from 0, which is none
   counted-each : Of-each (Counted a b trace) 0 25

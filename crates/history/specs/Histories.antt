@@ -19,6 +19,7 @@ use Rattle.eventlog.specs.Calls.{Room, room, Opens, open-said, Undeclared, Adds
 use Rattle.columns.specs.Calls.{Reads, read-said}
 use Rattle.discovery.specs.Lists.{how-many}
 use Rattle.discovery.specs.Constraints.{pairs, trace-count, meets, fulfilments, survives, layout, listed, replayed}
+use Rattle.discovery.specs.Claims.{Over, Precedes, Alike}
 use Rattle.discovery.specs.Calls.{Finds, find-said}
 use Rattle.history.specs.Ledger.{Call, open-for, add, read, find, Shown, only, Ledger, after, shows}
 
@@ -88,16 +89,6 @@ pub record FindIn : Type 0 where
 abbrev pub ledger-of : FindIn → Ledger
 ledger-of f = after-all (room (fresh (f .n) (f .events) (f .ends))) (first-ledger (f .n)) (f .before)
 
--- what the constraints over n activities are
-abbrev pub Over : ℕ → Constraint → Type 0
-Over n c = (1 ≤ c .template) × (c .template ≤ 24) × (c .a < n) × (c .b < n) × (pairs (c .template) (c .a) (c .b) ≡ true)
-
--- the stated order, in which nothing stands twice
-abbrev pub Precedes : Constraint → Constraint → Type 0
-Precedes c d =
-    (c .template < d .template)
-    ⊎ ((c .template ≡ d .template) × ((c .a < d .a) ⊎ ((c .a ≡ d .a) × (c .b < d .b))))
-
 -- What a find shows over a ledger's traces: the list, exactly, in order, each once, the rest of the slice as it was; and the numbers.
 pub record Right (l : Ledger) (threshold : ℕ) (list : List ℕ) (shown : Shown) : Type 0 where
   pub cs : List Constraint
@@ -114,16 +105,6 @@ abbrev pub Enough : Ledger → ℕ → List ℕ → Type 0
 Enough l threshold list =
     (1 ≤ threshold) × (threshold ≤ 1000) × (1 ≤ trace-count (l .traces))
     × (4 * length (listed (l .activities) threshold (l .traces)) ≤ length list)
-
-abbrev pub same : List ℕ → List ℕ → Bool
-same [] [] = true
-same [] (y ∷ ys) = false
-same (x ∷ xs) [] = false
-same (x ∷ xs) (y ∷ ys) = eqb x y and same xs ys
-
--- kept traces are alike, whatever their order, when each trace is there equally often
-abbrev pub Alike : List (List ℕ) → List (List ℕ) → Type 0
-Alike traces traces′ = (trace : List ℕ) → how-many (same trace) traces ≡ how-many (same trace) traces′
 
 -- Demand 3: one claim about all histories.
 pub record Demand3 : Type 1 where

@@ -1,0 +1,32 @@
+-- What the list is to be, said without discovery's own filter; and when kept traces are alike.
+-- Assumes nothing.
+use Prim.Native.Nat.{ℕ, _≤_, _<_}
+use mathlib.Core.Path.{_≡_}
+use mathlib.Core.Logic.{_⊎_}
+use mathlib.Core.Bool.{Bool, true, false}
+use mathlib.Core.List.{List, [], _∷_}
+use lib.Dec.{eqb}
+use Rattle.declare.specs.Logic.{_and_}
+use Rattle.discovery.specs.declared.Constraint.{Constraint}
+use Rattle.discovery.specs.Lists.{how-many}
+use Rattle.discovery.specs.Constraints.{pairs}
+
+-- what the constraints over n activities are
+abbrev pub Over : ℕ → Constraint → Type 0
+Over n c = (1 ≤ c .template) × (c .template ≤ 24) × (c .a < n) × (c .b < n) × (pairs (c .template) (c .a) (c .b) ≡ true)
+
+-- the stated order, in which nothing stands twice: template, then a, then b, rising
+abbrev pub Precedes : Constraint → Constraint → Type 0
+Precedes c d =
+    (c .template < d .template)
+    ⊎ ((c .template ≡ d .template) × ((c .a < d .a) ⊎ ((c .a ≡ d .a) × (c .b < d .b))))
+
+abbrev pub same : List ℕ → List ℕ → Bool
+same [] [] = true
+same [] (y ∷ ys) = false
+same (x ∷ xs) [] = false
+same (x ∷ xs) (y ∷ ys) = eqb x y and same xs ys
+
+-- kept traces are alike, whatever their order, when each trace is there equally often
+abbrev pub Alike : List (List ℕ) → List (List ℕ) → Type 0
+Alike traces traces′ = (trace : List ℕ) → how-many (same trace) traces ≡ how-many (same trace) traces′
