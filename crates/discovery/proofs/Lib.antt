@@ -1,3 +1,4 @@
 pub mod Listing
 pub mod Occurrence
 pub mod Pruning
+pub mod Walk

@@ -1,7 +1,10 @@
 ghost use mathlib.Core.Path.{_≡_};
+ghost use mathlib.Core.Bool.{true};
 ghost use Rattle.declare.specs.Meaning.{occurs as occurs-in};
-ghost use Rattle.discovery.specs.Constraints.{class-of, counts-for};
+ghost use Rattle.eventlog.specs.Store.{memory, sound, kept};
+ghost use Rattle.discovery.specs.Constraints.{class-of, counts-for, support as support-of};
 use eventlog::Refusal;
+use eventlog::Store;
 
 // A constraint (document 01: a rule): a template's number and its activities.
 pub struct Constraint {
@@ -63,4 +66,25 @@ fn counts_for(class: Class, a: u8, b: u8, trace: &[u8]) -> bool
         Class::Either => occurs(a, trace) || occurs(b, trace),
         Class::Both => occurs(a, trace) && occurs(b, trace),
     }
+}
+
+// How many kept traces count for the constraint's class.
+fn support(store: Store, events: &[u8], ends: &[u32], c: Constraint) -> u32
+    requires { ⌜ sound (memory store (now events) (now ends)) ≡ true ⌝ }
+    ensures { λ r. ⌜ r ≡ support-of (kept (memory store (now (events .entry)) (now (ends .entry)))) c ⌝ }
+{
+    let class = class_of(c.template);
+    let traces = store.traces as usize;
+    let mut count: u32 = 0;
+    let mut from: usize = 0;
+    let mut k: usize = 0;
+    while k < traces {
+        let to = ends[k] as usize;
+        if counts_for(class, c.a, c.b, &events[from..to]) {
+            count += 1;
+        }
+        from = to;
+        k += 1;
+    }
+    count
 }
