@@ -1,3 +1,4 @@
 pub mod Examples
 pub mod Print
+pub mod Puts
 pub mod Report

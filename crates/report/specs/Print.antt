@@ -1,13 +1,17 @@
 -- What is printed: fields justified and filled as in the log, each line ended by a line feed.
 -- Assumes nothing.
-use Prim.Native.Nat.{ℕ}
+use Prim.Native.Nat.{ℕ, _+_, _%_}
 use mathlib.Core.List.{List, [], _∷_, _++_}
-use lib.Dec.{leb}
+use lib.Dec.{eqb, leb}
 use lib.ListN.{length, replicate}
 use Rattle.declare.specs.Logic.{if_then_else_}
 use Rattle.columns.specs.Field.{blank, line-feed, spell}
 use Rattle.discovery.specs.Lists.{for-each}
 use Rattle.discovery.specs.Constraints.{trace-count, fulfilments, listed, replayed}
+
+-- a column before a field's last: a digit, or blank where nothing is left of the number
+abbrev pub column-of : ℕ → ℕ
+column-of n = if eqb n 0 then blank else 48 + n % 10
 
 -- a refusal prints its number in columns 1 to 2 and the detail in 3 to 8
 unfoldable pub refusal-line : ℕ → ℕ → List ℕ

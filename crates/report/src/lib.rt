@@ -1,1 +1,123 @@
 // All that findrules does between its input and its output.
+ghost use mathlib.Core.Path.{_≡_};
+ghost use mathlib.Core.List.{[], _∷_, _++_};
+ghost use Prim.Native.Nat.{ℕ, _+_, _*_, _≤_, _<_};
+ghost use lib.Dec.{leb};
+ghost use lib.ListN.{length, getD, drop, replicate};
+ghost use Rattle.declare.specs.Logic.{if_then_else_};
+ghost use Rattle.columns.specs.Field.{blank, line-feed, spell};
+ghost use Rattle.report.specs.Print.{column-of, refusal-line, first-line, constraint-line};
+ghost use Rattle.report.specs.Puts.{Puts, line-at, lines-of};
+
+fn wide(x: u16) -> usize
+    ensures { λ r. ⌜ r ≡ x ⌝ }
+{
+    x as usize
+}
+
+fn column(n: usize) -> u8
+    ensures { λ r. ⌜ r ≡ column-of n ⌝ }
+{
+    if n == 0 { 32 } else { 48 + (n % 10) as u8 }
+}
+
+// A field, from its last column to its first.
+fn put_field(out: &mut [u8], at: usize, width: usize, n: usize) -> usize
+    requires { ⌜ (at + width ≤ length (now out)) × (1 ≤ width) ⌝ }
+    ensures { λ r. ⌜ Puts (now (out .entry)) at width (spell width n) r (now (out .exit)) ⌝ }
+{
+    let mut left = width - 1;
+    out[at + left] = 48 + (n % 10) as u8;
+    let mut rest = n / 10;
+    while 0 < left {
+        left -= 1;
+        out[at + left] = column(rest);
+        rest = rest / 10;
+    }
+    at + width
+}
+
+fn put_line_feed(out: &mut [u8], at: usize) -> usize
+    requires { ⌜ at + 1 ≤ length (now out) ⌝ }
+    ensures { λ r. ⌜ Puts (now (out .entry)) at 1 (line-feed ∷ []) r (now (out .exit)) ⌝ }
+{
+    out[at] = 10;
+    at + 1
+}
+
+// The second activity of a constraint, blank for templates 1 to 8.
+fn put_second(out: &mut [u8], at: usize, template: usize, b: usize) -> usize
+    requires { ⌜ at + 3 ≤ length (now out) ⌝ }
+    ensures { λ r. ⌜ Puts (now (out .entry)) at 3 (if leb template 8 then replicate 3 blank else spell 3 b) r (now (out .exit)) ⌝ }
+{
+    if template <= 8 {
+        out[at] = 32;
+        out[at + 1] = 32;
+        out[at + 2] = 32;
+        return at + 3;
+    }
+    put_field(out, at, 3, b)
+}
+
+fn put_constraint(
+    out: &mut [u8],
+    at: usize,
+    template: usize,
+    a: usize,
+    b: usize,
+    count: usize,
+) -> usize
+    requires { ⌜ at + 14 ≤ length (now out) ⌝ }
+    ensures { λ r. ⌜ Puts (now (out .entry)) at 14 (constraint-line template a b count) r (now (out .exit)) ⌝ }
+{
+    let after_template = put_field(out, at, 2, template);
+    let after_a = put_field(out, after_template, 3, a);
+    let after_b = put_second(out, after_a, template, b);
+    let after_count = put_field(out, after_b, 5, count);
+    put_line_feed(out, after_count)
+}
+
+// The line of the constraint that stands in the list after k others.
+fn put_nth(out: &mut [u8], at: usize, list: &[u16], k: usize) -> usize
+    requires { ⌜ (at + 14 ≤ length (now out)) × (4 * k + 4 ≤ length (now list)) ⌝ }
+    ensures { λ r. ⌜ Puts (now (out .entry)) at 14 (line-at k (now (list .entry))) r (now (out .exit)) ⌝ }
+{
+    let first = 4 * k;
+    let template = wide(list[first]);
+    let a = wide(list[first + 1]);
+    let b = wide(list[first + 2]);
+    let count = wide(list[first + 3]);
+    put_constraint(out, at, template, a, b, count)
+}
+
+fn put_list(out: &mut [u8], at: usize, list: &[u16], count: usize) -> usize
+    requires { ⌜ (at + 14 * count ≤ length (now out)) × (4 * count ≤ length (now list)) ⌝ }
+    ensures { λ r. ⌜ Puts (now (out .entry)) at (14 * count) (lines-of count (now (list .entry))) r (now (out .exit)) ⌝ }
+{
+    let mut next = at;
+    let mut k = 0;
+    while k < count {
+        next = put_nth(out, next, list, k);
+        k += 1;
+    }
+    next
+}
+
+fn put_first(out: &mut [u8], constraints: usize, replayed: usize, traces: usize) -> usize
+    requires { ⌜ 19 ≤ length (now out) ⌝ }
+    ensures { λ r. ⌜ Puts (now (out .entry)) 0 19 (first-line constraints replayed traces) r (now (out .exit)) ⌝ }
+{
+    let after_constraints = put_field(out, 0, 6, constraints);
+    let after_replayed = put_field(out, after_constraints, 6, replayed);
+    let after_traces = put_field(out, after_replayed, 6, traces);
+    put_line_feed(out, after_traces)
+}
+
+fn refuse(out: &mut [u8], number: usize, detail: usize) -> usize
+    requires { ⌜ 9 ≤ length (now out) ⌝ }
+    ensures { λ r. ⌜ Puts (now (out .entry)) 0 9 (refusal-line number detail) r (now (out .exit)) ⌝ }
+{
+    let after_number = put_field(out, 0, 2, number);
+    let after_detail = put_field(out, after_number, 6, detail);
+    put_line_feed(out, after_detail)
+}

@@ -1,0 +1,33 @@
+-- `report::refuse` meets its contract: its fields are put one after the other.
+-- Assumes nothing.
+use borrow.Author.Needs.{needs}
+use Rattle.report.specs.Print.{refusal-line}
+use Rattle.report.proofs.Puts.{put-then}
+use Rattle.report.proofs.refuse.Statement.{statement}
+use Rattle.report.proofs.refuse.Tie as tie
+
+put-field-requires : tie.Need-put-field-requires
+put-field-requires c κs = search needs
+
+put-field-requires-2 : tie.Need-put-field-requires-2
+put-field-requires-2 c κs = search needs
+
+put-line-feed-requires : tie.Need-put-line-feed-requires
+put-line-feed-requires c κs = search needs
+
+same-length : tie.Need-same-length
+same-length c = search needs
+
+returns : tie.Need-returns
+unfolding refusal-line
+returns c =
+    put-then
+    (put-then
+    (c .before .before .before .before .before .before .before .before .before .before .put-field .ensures)
+    (c .before .before .before .before .before .before .put-field2 .ensures))
+    (c .before .before .put-line-feed .ensures)
+
+pub refuse-spec : {M : Type 1} → statement M
+refuse-spec =
+    tie.close
+    (tie.spec put-field-requires put-field-requires-2 put-line-feed-requires same-length returns)

@@ -1,0 +1,24 @@
+-- What the functions that write text promise each other.
+-- Assumes nothing.
+use Prim.Native.Nat.{ℕ, zero, suc, _+_, _*_}
+use mathlib.Core.Path.{_≡_}
+use mathlib.Core.List.{List, [], _++_}
+use lib.ListN.{length, getD, drop}
+use lib.Seq.{sets}
+use Rattle.report.specs.Print.{constraint-line}
+
+-- `text`, of this size, is put at a place of `out`, and the place after it handed back
+pub record Puts (out : List ℕ) (at size : ℕ) (text : List ℕ) (next : ℕ) (out′ : List ℕ) : Type 0 where
+  pub sized : length text ≡ size
+  pub follows : next ≡ at + size
+  pub stores : out′ ≡ sets out at text
+
+-- the line of the constraint that stands in a list after so many others, each of them four numbers
+abbrev pub line-at : ℕ → List ℕ → List ℕ
+line-at k list =
+    constraint-line (getD list (4 * k) 0) (getD list (4 * k + 1) 0) (getD list (4 * k + 2) 0) (getD list (4 * k + 3) 0)
+
+-- the lines of a list's first constraints
+abbrev pub lines-of : ℕ → List ℕ → List ℕ
+lines-of zero list = []
+lines-of (suc more) list = line-at 0 list ++ lines-of more (drop 4 list)
