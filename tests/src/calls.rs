@@ -23,3 +23,21 @@ pub trait Calls {
     fn read(&mut self, record: Record, events: &mut [u8], ends: &mut [u32], log: &[u8]) -> (Record, Result<u32, Refusal>);
     fn find(&mut self, record: Record, events: &[u8], ends: &[u32], threshold: u32, list: &mut [u16]) -> Result<FindAnswer, Refusal>;
 }
+
+impl<C: Calls + ?Sized> Calls for &mut C {
+    fn open(&mut self, n: u32) -> Result<Record, Refusal> {
+        (**self).open(n)
+    }
+
+    fn add(&mut self, record: Record, events: &mut [u8], ends: &mut [u32], trace: &[u8]) -> (Record, Result<(), Refusal>) {
+        (**self).add(record, events, ends, trace)
+    }
+
+    fn read(&mut self, record: Record, events: &mut [u8], ends: &mut [u32], log: &[u8]) -> (Record, Result<u32, Refusal>) {
+        (**self).read(record, events, ends, log)
+    }
+
+    fn find(&mut self, record: Record, events: &[u8], ends: &[u32], threshold: u32, list: &mut [u16]) -> Result<FindAnswer, Refusal> {
+        (**self).find(record, events, ends, threshold, list)
+    }
+}

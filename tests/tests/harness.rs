@@ -1,0 +1,205 @@
+//! Tests of the tests: with the model itself as the subject all cases pass, with a faulty one the fault is reported.
+
+use budgieleaf_tests::calls::{Calls, FindAnswer, Record};
+use budgieleaf_tests::memories;
+use budgieleaf_tests::oracle::ledger::Refusal;
+use budgieleaf_tests::oracle::memory::{is_sound, Model};
+use budgieleaf_tests::play::{play, Sizes};
+use budgieleaf_tests::rng::Rng;
+
+const SMALL: Sizes = Sizes { events: 60, ends: 9, calls: 40, longest: 9, lines: 40 };
+
+#[test]
+fn the_model_agrees_with_the_ledger() {
+    let mut reached = [0; 13];
+    for seed in 0..60 {
+        let sizes = Sizes { events: 10 * (seed as usize % 12), ends: seed as usize % 9, ..SMALL };
+        let tally = play(&mut Model, seed, sizes).unwrap();
+        reached.iter_mut().zip(tally).for_each(|(r, t)| *r += t);
+    }
+    for number in [0, 2, 3, 4, 5, 6, 8, 9, 10, 11] {
+        assert!(reached[number] > 0, "answer {number} never came: {reached:?}");
+    }
+}
+
+#[derive(Clone, Copy, PartialEq, Debug)]
+enum Fault {
+    OpensAny,
+    EventPast,
+    EndPast,
+    EventKept,
+    WritesThoughRefused,
+    CountsThoughRefused,
+    KeepsNothing,
+    Number,
+    Detail,
+    PlaceOfDeclared,
+    ListPast,
+    ListEntry,
+    ListOrder,
+    ListThoughRefused,
+    Listed,
+    Replayed,
+    Traces,
+    ReadCount,
+}
+
+const FAULTS: [Fault; 18] = [
+    Fault::OpensAny,
+    Fault::EventPast,
+    Fault::EndPast,
+    Fault::EventKept,
+    Fault::WritesThoughRefused,
+    Fault::CountsThoughRefused,
+    Fault::KeepsNothing,
+    Fault::Number,
+    Fault::Detail,
+    Fault::PlaceOfDeclared,
+    Fault::ListPast,
+    Fault::ListEntry,
+    Fault::ListOrder,
+    Fault::ListThoughRefused,
+    Fault::Listed,
+    Fault::Replayed,
+    Fault::Traces,
+    Fault::ReadCount,
+];
+
+/// The model with one fault, and whether it has come into play.
+struct Faulty {
+    fault: Fault,
+    shown: bool,
+}
+
+impl Faulty {
+    fn when(&mut self, fault: Fault, possible: bool) -> bool {
+        let now = self.fault == fault && possible;
+        self.shown |= now;
+        now
+    }
+
+    fn refusal(&mut self, r: &mut Refusal) {
+        if self.when(Fault::Number, true) {
+            r.number += 1;
+        }
+        if self.when(Fault::Detail, r.number != 6) {
+            r.detail += 1;
+        }
+    }
+
+    fn buffers(&mut self, accepted: bool, before: Record, after: &mut Record, events: &mut [u8], ends: &mut [u32]) {
+        let last = if after.traces == 0 { 0 } else { ends[after.traces as usize - 1] as usize };
+        if self.when(Fault::EventKept, accepted && last > 0) {
+            events[0] = (events[0] + 1) % 2;
+        }
+        if self.when(Fault::EventPast, accepted && last < events.len()) {
+            events[last] ^= 128;
+        }
+        if self.when(Fault::EndPast, (after.traces as usize) < ends.len()) {
+            ends[after.traces as usize] ^= 1;
+        }
+        if self.when(Fault::WritesThoughRefused, !accepted && last < events.len()) {
+            events[events.len() - 1] ^= 4;
+        }
+        if self.when(Fault::CountsThoughRefused, !accepted) {
+            after.traces += 1;
+        }
+        if self.when(Fault::KeepsNothing, accepted && after.traces > before.traces) {
+            *after = before;
+        }
+    }
+}
+
+impl Calls for Faulty {
+    fn open(&mut self, n: u32) -> Result<Record, Refusal> {
+        match Model.open(n) {
+            Err(_) if self.when(Fault::OpensAny, true) => Ok(Record { activities: n, traces: 0 }),
+            said => said,
+        }
+    }
+
+    fn add(&mut self, record: Record, events: &mut [u8], ends: &mut [u32], trace: &[u8]) -> (Record, Result<(), Refusal>) {
+        let (mut after, mut said) = Model.add(record, events, ends, trace);
+        if let Err(r) = &mut said {
+            self.refusal(r);
+            let declared = trace.iter().position(|&x| (x as u32) < record.activities);
+            if self.when(Fault::PlaceOfDeclared, r.number == 6 && declared.is_some()) {
+                r.detail = declared.unwrap() as u64 + 1;
+            }
+        }
+        self.buffers(said.is_ok(), record, &mut after, events, ends);
+        (after, said)
+    }
+
+    fn read(&mut self, record: Record, events: &mut [u8], ends: &mut [u32], log: &[u8]) -> (Record, Result<u32, Refusal>) {
+        let (mut after, mut said) = Model.read(record, events, ends, log);
+        match &mut said {
+            Err(r) => self.refusal(r),
+            Ok(added) if self.when(Fault::ReadCount, true) => *added += 1,
+            _ => {}
+        }
+        self.buffers(said.is_ok(), record, &mut after, events, ends);
+        (after, said)
+    }
+
+    fn find(&mut self, record: Record, events: &[u8], ends: &[u32], threshold: u32, list: &mut [u16]) -> Result<FindAnswer, Refusal> {
+        let mut said = Model.find(record, events, ends, threshold, list);
+        match &mut said {
+            Err(r) => {
+                self.refusal(r);
+                if self.when(Fault::ListThoughRefused, !list.is_empty()) {
+                    list[0] ^= 1;
+                }
+            }
+            Ok(found) => {
+                let used = 4 * found.listed as usize;
+                if self.when(Fault::ListPast, used < list.len()) {
+                    list[used] ^= 1;
+                }
+                if self.when(Fault::ListEntry, used > 0) {
+                    list[used - 1] ^= 1;
+                }
+                if self.when(Fault::ListOrder, used >= 8) {
+                    list[..8].rotate_left(4);
+                }
+                found.listed += self.when(Fault::Listed, true) as u32;
+                found.replayed += self.when(Fault::Replayed, true) as u32;
+                found.traces += self.when(Fault::Traces, true) as u32;
+            }
+        }
+        said
+    }
+}
+
+#[test]
+fn each_fault_is_reported() {
+    for fault in FAULTS {
+        let mut shown = 0;
+        for seed in 100..140 {
+            let mut subject = Faulty { fault, shown: false };
+            let result = play(&mut subject, seed, SMALL);
+            assert_eq!(subject.shown, result.is_err(), "{fault:?} at seed {seed}: {result:?}");
+            shown += subject.shown as usize;
+        }
+        assert!(shown > 10, "{fault:?} came into play {shown} times");
+    }
+}
+
+#[test]
+fn memories_are_sound_or_not_as_meant() {
+    let mut rng = Rng::new(7);
+    let sound = |m: &budgieleaf_tests::play::Memory| is_sound(m.record, m.events.get(), m.ends.get());
+    for _ in 0..300 {
+        assert!(sound(&memories::sound(&mut rng)));
+        for (kind, name) in memories::UNSOUND.iter().enumerate() {
+            let memory = memories::unsound(&mut rng, kind);
+            assert!(!sound(&memory), "{name}: {memory:?}");
+        }
+    }
+    for _ in 0..30 {
+        assert!(sound(&memories::at_the_limits(&mut rng)));
+    }
+    let many: Vec<bool> = (0..2000).map(|_| sound(&memories::arbitrary(&mut rng))).collect();
+    let count = many.iter().filter(|&&s| s).count();
+    assert!(count > 200 && count < 1800, "{count} of 2000 are sound");
+}

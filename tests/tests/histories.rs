@@ -1,0 +1,167 @@
+//! Random histories of open, add, read and find through the archive: after every call the answer, the record and every byte that
+//! was lent are compared with the model, and the answer with the ledger.
+
+use budgieleaf_tests::calls::{Calls, FindAnswer};
+use budgieleaf_tests::capi::Archive;
+use budgieleaf_tests::gen;
+use budgieleaf_tests::oracle::ledger::refusal;
+use budgieleaf_tests::play::{play, Call, History, Lent, Said, Sizes};
+use budgieleaf_tests::rng::{cases, Rng};
+
+fn random(name: &str, seed: u64, default: usize, answers: &[usize], sizes: impl Fn(&mut Rng) -> Sizes) {
+    let mut reached = [0; 13];
+    let mut rng = Rng::new(seed);
+    for case in 0..cases(default) {
+        let tally = play(&mut Archive, seed + 1000 * case as u64, sizes(&mut rng)).unwrap_or_else(|e| panic!("{name}: {e}"));
+        reached.iter_mut().zip(tally).for_each(|(r, t)| *r += t);
+    }
+    println!("{name}: {} histories, {} calls, answers {reached:?}", cases(default), reached.iter().sum::<usize>());
+    for &answer in answers {
+        assert!(reached[answer] > 0, "{name}: answer {answer} never came: {reached:?}");
+    }
+}
+
+#[test]
+fn small_buffers() {
+    random("small", 1, 1200, &[0, 2, 3, 4, 5, 6, 8, 9, 10, 11], |rng| {
+        let longest = rng.pick(&[1, 4, 9]);
+        Sizes { events: rng.below(60), ends: rng.below(9), calls: 30, longest, lines: 40 }
+    });
+}
+
+#[test]
+fn middling_buffers() {
+    random("middling", 2, 250, &[0, 2, 3, 4, 5, 6, 8, 9, 10, 11], |rng| {
+        let longest = rng.pick(&[3, 15, 40]);
+        Sizes { events: rng.within(100, 600), ends: rng.within(10, 40), calls: 60, longest, lines: 200 }
+    });
+}
+
+#[test]
+fn large_buffers() {
+    random("large", 3, 12, &[0, 4, 6, 7, 9, 10], |rng| {
+        let longest = rng.pick(&[300, 4096]);
+        Sizes { events: rng.within(9000, 30000), ends: rng.within(5, 5000), calls: 25, longest, lines: 5000 }
+    });
+}
+
+fn list(rng: &mut Rng, len: usize) -> Lent<u16> {
+    Lent::new(rng, len, |rng| rng.next() as u16)
+}
+
+/// Up to 4095 traces, or as many as there are ends; then 8 for a trace and for a log's line, an empty log is taken, and find
+/// goes on as before.
+#[test]
+fn up_to_the_last_trace() {
+    for (ends_room, most) in [(4095, 4095), (5000, 4095), (4094, 4094)] {
+        let rng = &mut Rng::new(ends_room as u64);
+        let mut history = History::fresh(Archive, rng, 3, 6000, ends_room);
+        let mut call = |call| history.call(call).unwrap();
+        for part in [1500, 1500, most - 3003] {
+            let log: Vec<Vec<u8>> = (0..part).map(|_| vec![rng.below(3) as u8]).collect();
+            assert_eq!(call(Call::Read(gen::log(rng, &log))), Said::Read(part as u32));
+        }
+        for k in 0..3 {
+            assert_eq!(call(Call::Add(vec![k; k as usize])), Said::Added);
+        }
+        assert_eq!(call(Call::Add(vec![])), Said::Refused(refusal(8, 0)));
+        assert_eq!(call(Call::Add(vec![1; 4097])), Said::Refused(refusal(7, 0)));
+        assert_eq!(call(Call::Read(b"     1  0\n".to_vec())), Said::Refused(refusal(8, 1)));
+        assert_eq!(call(Call::Read(b"     1  3\n".to_vec())), Said::Refused(refusal(6, 1)));
+        assert_eq!(call(Call::Read(vec![])), Said::Read(0));
+        let listed = call(Call::Find(300, list(rng, 400)));
+        assert!(matches!(listed, Said::Found(FindAnswer { traces, .. }) if traces == most as u32), "{listed:?}");
+    }
+}
+
+/// One trace of 4096, then a log that fills the events to the last, then 9.
+#[test]
+fn up_to_the_last_event() {
+    let rng = &mut Rng::new(11);
+    let mut history = History::fresh(Archive, rng, 2, 9000, 40);
+    let mut call = |call| history.call(call).unwrap();
+    assert_eq!(call(Call::Add(vec![1; 4097])), Said::Refused(refusal(7, 0)));
+    assert_eq!(call(Call::Add(vec![1; 4096])), Said::Added);
+    let lines = |n: usize| b"     7  0\n".repeat(n);
+    assert_eq!(call(Call::Read(lines(4097))), Said::Refused(refusal(7, 4097)));
+    assert_eq!(call(Call::Read(lines(4096))), Said::Read(1));
+    assert_eq!(call(Call::Read(lines(4096))), Said::Refused(refusal(9, 9000 - 8192 + 1)));
+    assert_eq!(call(Call::Add(vec![0; 9000 - 8191])), Said::Refused(refusal(9, 0)));
+    assert_eq!(call(Call::Read(lines(9000 - 8192))), Said::Read(1));
+    assert_eq!(call(Call::Add(vec![])), Said::Added);
+    assert_eq!(call(Call::Add(vec![0])), Said::Refused(refusal(9, 0)));
+    assert_eq!(call(Call::Read(lines(1))), Said::Refused(refusal(9, 1)));
+    assert!(matches!(call(Call::Find(500, list(rng, 400))), Said::Found(FindAnswer { traces: 4, .. })));
+    assert_eq!(call(Call::Open(33)), Said::Refused(refusal(2, 0)));
+    assert_eq!(call(Call::Open(32)), Said::Opened);
+    assert_eq!(call(Call::Find(500, list(rng, 400))), Said::Refused(refusal(11, 0)));
+}
+
+/// All numbers of rules from too few to enough, one by one.
+#[test]
+fn lists_of_every_length() {
+    let rng = &mut Rng::new(12);
+    let mut history = History::fresh(Archive, rng, 4, 200, 20);
+    for _ in 0..8 {
+        let trace = gen::trace(rng, 4, 9);
+        history.call(Call::Add(trace)).unwrap();
+    }
+    for threshold in [1, 400, 800, 1000] {
+        let Err(needed) = history.ledger.find(threshold, 0) else { panic!("some rule is listed") };
+        for len in 0..4 * needed.detail as usize + 6 {
+            history.call(Call::Find(threshold, list(rng, len))).unwrap();
+        }
+    }
+}
+
+/// The rows of document 01 without a star.
+#[test]
+fn rows_of_document_01() {
+    let rng = &mut Rng::new(13);
+    let mut history = History::fresh(Archive, rng, 2, 5000, 20);
+    let mut call = |call| history.call(call).unwrap();
+    assert_eq!(call(Call::Add(vec![0, 1])), Said::Added);
+    assert_eq!(call(Call::Add(vec![0, 0, 1])), Said::Added);
+    let answer = FindAnswer { listed: 18, replayed: 44, traces: 2 };
+    assert_eq!(call(Call::Find(1000, list(rng, 72))), Said::Found(answer));
+    assert_eq!(call(Call::Find(1000, list(rng, 71))), Said::Refused(refusal(10, 18)));
+    assert_eq!(call(Call::Open(32)), Said::Opened);
+    assert_eq!(call(Call::Open(33)), Said::Refused(refusal(2, 0)));
+    assert_eq!(call(Call::Add(vec![31; 4096])), Said::Added);
+    assert_eq!(call(Call::Add(vec![31; 4097])), Said::Refused(refusal(7, 0)));
+}
+
+/// Two finds alike in N, threshold and traces, whatever their order, give the same list and numbers.
+#[test]
+fn the_order_of_traces_does_not_matter() {
+    let rng = &mut Rng::new(14);
+    for _ in 0..cases(60) {
+        let n = gen::activities(rng);
+        let count = rng.within(1, 12);
+        let mut traces = gen::traces(rng, n, count, 10);
+        let (threshold, lent) = (gen::threshold(rng), list(rng, 60000));
+        let mut lists = Vec::new();
+        for _ in 0..2 {
+            rng.shuffle(&mut traces);
+            let mut history = History::fresh(Archive, rng, n, 150, 12);
+            for trace in &traces {
+                assert_eq!(history.call(Call::Add(trace.clone())).unwrap(), Said::Added);
+            }
+            let (memory, mut slice) = (&history.memory, lent.clone());
+            let said = Archive.find(memory.record, memory.events.get(), memory.ends.get(), threshold, slice.get_mut());
+            lists.push((said, slice));
+        }
+        assert!(lists[0] == lists[1]);
+    }
+}
+
+/// N of 32 and as many traces as can be kept: one find at the limits.
+#[test]
+fn a_find_at_the_limits() {
+    let rng = &mut Rng::new(15);
+    let mut history = History::fresh(Archive, rng, 32, 20000, 4095);
+    let traces: Vec<Vec<u8>> = (0..4095).map(|_| (0..4).map(|_| rng.below(32) as u8).collect()).collect();
+    assert_eq!(history.call(Call::Read(gen::log(rng, &traces))).unwrap(), Said::Read(4095));
+    let said = history.call(Call::Find(100, list(rng, 60000))).unwrap();
+    assert!(matches!(said, Said::Found(FindAnswer { traces: 4095, .. })), "{said:?}");
+}
