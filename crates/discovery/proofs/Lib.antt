@@ -1,4 +1,5 @@
 pub mod Listing
 pub mod Occurrence
+pub mod Orderless
 pub mod Pruning
 pub mod Walk
