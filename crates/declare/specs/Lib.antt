@@ -1,3 +1,4 @@
-pub mod Examples
 pub mod Logic
 pub mod Meaning
+pub mod Summary
+pub mod Examples

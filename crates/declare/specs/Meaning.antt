@@ -116,7 +116,7 @@ activated template a b trace =
     if between 1 template 10 then true
     else if between 13 template 16 then occurs a trace
     else if between 17 template 19 then occurs b trace
-    else if between 11 template 12 or between 20 template 24 then occurs a trace or occurs b trace
+    else if between 11 template 24 then occurs a trace or occurs b trace
     else false
 
 -- the constraint is activated and holds

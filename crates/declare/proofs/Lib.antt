@@ -1,0 +1,4 @@
+pub mod Bools
+pub mod Places
+pub mod Ranges
+pub mod Summary
