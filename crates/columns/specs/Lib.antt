@@ -1,3 +1,5 @@
 pub mod Calls
+pub mod Examples
 pub mod Field
 pub mod Log
+pub mod Scan
