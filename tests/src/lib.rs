@@ -8,3 +8,4 @@ pub mod oracle;
 pub mod play;
 pub mod program;
 pub mod rng;
+pub mod samples;
