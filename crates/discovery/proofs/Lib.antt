@@ -1,5 +1,6 @@
 pub mod Listing
 pub mod Occurrence
 pub mod Orderless
+pub mod Passing
 pub mod Pruning
 pub mod Walk

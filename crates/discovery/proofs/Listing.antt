@@ -235,7 +235,7 @@ listed-ordered n threshold traces = Pairwise·sublistᴰ (those-sublist _ (const
 
 -- ## How many constraints there are
 
-for-each-append : {A B : Type 0} (f : A → List B) (xs ys : List A) → for-each (xs ++ ys) f ≡ for-each xs f ++ for-each ys f
+pub for-each-append : {A B : Type 0} (f : A → List B) (xs ys : List A) → for-each (xs ++ ys) f ≡ for-each xs f ++ for-each ys f
 for-each-append f [] ys = refl
 for-each-append f (x ∷ xs) ys = ap (λ l. f x ++ l) (for-each-append f xs ys) ∙ sym (append-assoc (f x) _ _)
 
@@ -354,7 +354,7 @@ module _ (n : ℕ) where
       rw (mul-assoc 14 n n)
       (omega (arith, ap length split ∙ length-append (for-each (numbers-from 1 8) (grid n)) _, length-append (for-each (numbers-from 9 4) (grid n)) (for-each (numbers-from 13 12) (grid n))))
 
-how-many-at-most : {A : Type 0} (p : A → Bool) (xs : List A) → how-many p xs ≤ length xs
+pub how-many-at-most : {A : Type 0} (p : A → Bool) (xs : List A) → how-many p xs ≤ length xs
 how-many-at-most p xs = omega (arith, not-counted p xs)
 
 -- no more are replayed than there are constraints, 14 n n - 6 n

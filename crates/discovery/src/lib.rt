@@ -2,7 +2,13 @@ ghost use mathlib.Core.Path.{_≡_};
 ghost use mathlib.Core.Bool.{true};
 ghost use Rattle.declare.specs.Meaning.{occurs as occurs-in};
 ghost use Rattle.eventlog.specs.Store.{memory, sound, kept};
-ghost use Rattle.discovery.specs.Constraints.{class-of, counts-for, support as support-of};
+ghost use Prim.Native.Nat.{_+_, _*_, _≤_, _<_};
+ghost use lib.ListN.{set};
+ghost use lib.Seq.{sets};
+ghost use mathlib.Core.List.{[], _∷_};
+ghost use Rattle.declare.specs.Meaning.{fulfilled, verdict};
+ghost use Rattle.discovery.specs.Constraints.{class-of, counts-for, support as support-of, meets as meets-test, pairs as pairs-test, survives};
+ghost use Rattle.discovery.specs.Passes.{Replays, Passes, cell, row, grid};
 use eventlog::Refusal;
 use eventlog::Store;
 
@@ -19,6 +25,18 @@ pub enum Class {
     All,
     Either,
     Both,
+}
+
+// A constraint's fulfilled traces, and how many constraints have been replayed, this one counted.
+pub struct Replayed {
+    pub fulfilled: u32,
+    pub replayed: u32,
+}
+
+// How many constraints so far are listed, and how many were replayed.
+pub struct Tally {
+    pub listed: u32,
+    pub replayed: u32,
 }
 
 pub struct Found {
@@ -87,4 +105,44 @@ fn support(store: Store, events: &[u8], ends: &[u32], c: Constraint) -> u32
         k += 1;
     }
     count
+}
+
+// 1000 times the number is at least the threshold times all; nothing is rounded.
+fn meets(threshold: u32, all: u32, number: u32) -> bool
+    ensures { λ r. ⌜ r ≡ meets-test threshold all number ⌝ }
+{
+    (threshold as u64) * (all as u64) <= 1000 * (number as u64)
+}
+
+fn pairs(template: u8, a: u8, b: u8) -> bool
+    ensures { λ r. ⌜ r ≡ pairs-test template a b ⌝ }
+{
+    if template <= 8 {
+        return a == b;
+    }
+    if template <= 12 {
+        return a < b;
+    }
+    a != b
+}
+
+// A number past the slice's end is dropped.
+fn put(list: &mut [u16], at: usize, value: u16)
+    ensures { λ _. ⌜ now (list .exit) ≡ set (now (list .entry)) at value ⌝ }
+{
+    if at < list.len() {
+        list[at] = value;
+    }
+}
+
+// The four numbers of a listed constraint, behind those of the constraints listed before it.
+fn write(list: &mut [u16], listed: u32, c: Constraint, count: u16)
+    requires { ⌜ listed ≤ 65535 ⌝ }
+    ensures { λ _. ⌜ now (list .exit) ≡ sets (now (list .entry)) (4 * listed) (c .template ∷ c .a ∷ c .b ∷ count ∷ []) ⌝ }
+{
+    let at = 4 * (listed as usize);
+    put(list, at, c.template as u16);
+    put(list, at + 1, c.a as u16);
+    put(list, at + 2, c.b as u16);
+    put(list, at + 3, count);
 }

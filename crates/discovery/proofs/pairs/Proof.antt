@@ -1,0 +1,17 @@
+-- `discovery::pairs` meets its contract: the tests that led to each answer decide the definition's.
+-- Assumes nothing.
+use borrow.Author.Tests.{le-leb, lt-leb}
+use Rattle.discovery.proofs.pairs.Statement.{statement}
+use Rattle.discovery.proofs.pairs.Tie as tie
+
+returns : tie.Need-returns
+returns c = simp (le-leb _ _ (c .if1 .taken))
+
+returns-2 : tie.Need-returns-2
+returns-2 c = simp (lt-leb _ _ (c .before .if1 .left), le-leb _ _ (c .if2 .taken))
+
+returns-3 : tie.Need-returns-3
+returns-3 c = simp (lt-leb _ _ (c .before .if1 .left), lt-leb _ _ (c .if2 .left))
+
+pub pairs-spec : {M : Type 1} → statement M
+pairs-spec = tie.close (tie.spec returns returns-2 returns-3)

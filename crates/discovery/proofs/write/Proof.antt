@@ -1,0 +1,67 @@
+-- `discovery::write` meets its contract: four stores, one behind the other.
+-- Assumes nothing.
+use Prim.Native.Nat.{_*_}
+use borrow.Author.Needs.{needs}
+use Rattle.discovery.proofs.Passing.{four-stores}
+use Rattle.discovery.proofs.write.Statement.{statement}
+use Rattle.discovery.proofs.write.Tie as tie
+
+mul-at : tie.Need-mul-at
+mul-at c = search needs
+
+cast-put : tie.Need-cast-put
+cast-put c = search needs
+
+put-requires : tie.Need-put-requires
+put-requires c κs = search needs
+
+add-put : tie.Need-add-put
+add-put c = search needs
+
+cast-put-2 : tie.Need-cast-put-2
+cast-put-2 c = search needs
+
+put-requires-2 : tie.Need-put-requires-2
+put-requires-2 c κs = search needs
+
+add-put-2 : tie.Need-add-put-2
+add-put-2 c = search needs
+
+cast-put-3 : tie.Need-cast-put-3
+cast-put-3 c = search needs
+
+put-requires-3 : tie.Need-put-requires-3
+put-requires-3 c κs = search needs
+
+add-put-3 : tie.Need-add-put-3
+add-put-3 c = search needs
+
+put-requires-4 : tie.Need-put-requires-4
+put-requires-4 c κs = search needs
+
+same-length : tie.Need-same-length
+same-length c = search needs
+
+returns : tie.Need-returns
+returns c =
+    let start = c .before .before .before .before .before .before .before .before .before .before .before .before .before .before .before .before .before .before .before .before in
+    four-stores (start .args .list .now) _ _ _ _ (4 * start .args .listed) (start .args .c .template) (start .args .c .a) (start .args .c .b) (start .args .count)
+    (c .before .before .before .before .before .before .before .before .before .before .before .before .before .before .before .before .put .ensures) (c .before .before .before .before .before .before .before .before .before .before .before .put2 .ensures) (c .before .before .before .before .before .before .put3 .ensures) (c .before .before .put4 .ensures)
+
+pub write-spec : {M : Type 1} → statement M
+write-spec =
+    tie.close
+    (tie.spec
+    mul-at
+    cast-put
+    put-requires
+    add-put
+    cast-put-2
+    put-requires-2
+    add-put-2
+    cast-put-3
+    put-requires-3
+    add-put-3
+    put-requires-4
+    same-length
+    returns)
