@@ -73,6 +73,12 @@ abbrev pub add-said : AddAnswer → Reply
 add-said AddAnswer.Added = gives []
 add-said (AddAnswer.Refused refusal) = refused (refusal .number) (refusal .detail)
 
+-- add answers so in memory m
+pub record Answers (m : Memory) (trace : List ℕ) (answer : AddAnswer) : Type 0 where
+  pub place : ℕ
+  pub free : all-below (m .store .activities) trace ≡ false → Undeclared (m .store .activities) trace place
+  pub says : add-said answer ≡ reply (checks-of-add place m trace) []
+
 -- `add` in memory m answers so and leaves these buffers. Only the place in refusal 6 is free.
 pub record Adds (m : Memory) (trace : List ℕ) (result : AddResult) (events ends : List ℕ) : Type 0 where
   pub place : ℕ

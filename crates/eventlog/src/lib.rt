@@ -2,7 +2,8 @@ ghost use mathlib.Core.Path.{_≡_};
 ghost use mathlib.Core.Bool.{true};
 ghost use Prim.Native.Nat.{_+_, _<_, _≤_};
 ghost use lib.ListN.{length, getD, take};
-ghost use Rattle.eventlog.specs.Calls.{Opens};
+ghost use lib.Seq.{sets};
+ghost use Rattle.eventlog.specs.Calls.{Adds, Answers, Opens, with-trace};
 ghost use Rattle.eventlog.specs.Store.{memory, last-from, last-kept, rising, all-below, sound};
 
 // The log's record (document 01: the store): how many activities are declared, and how many traces are kept.
@@ -145,4 +146,79 @@ pub fn is_sound(store: Store, events: &[u8], ends: &[u32]) -> bool
         return false;
     }
     declared_front(n, &events[..last]) == last
+}
+
+fn refused(number: u8, detail: usize) -> AddAnswer
+    ensures { λ r. ⌜ r ≡ AddAnswer.Refused (record { number = number; detail = detail }) ⌝ }
+{
+    AddAnswer::Refused(Refusal { number, detail })
+}
+
+// What add answers. Nothing is written before this is known.
+fn add_answer(store: Store, events: &[u8], ends: &[u32], trace: &[u8]) -> AddAnswer
+    ensures { λ r. ⌜ Answers (memory store (now (events .entry)) (now (ends .entry))) (now (trace .entry)) r ⌝ }
+{
+    if !is_sound(store, events, ends) {
+        return refused(1, 0);
+    }
+    let declared = declared_front(store.activities, trace);
+    if declared < trace.len() {
+        return refused(6, declared + 1);
+    }
+    if (LONGEST_TRACE as usize) < trace.len() {
+        return refused(7, 0);
+    }
+    let traces = store.traces;
+    if traces == MOST_TRACES {
+        return refused(8, 0);
+    }
+    if traces as usize == ends.len() {
+        return refused(8, 0);
+    }
+    let last = last_end(store, ends) as usize;
+    if events.len() - last < trace.len() {
+        return refused(9, 0);
+    }
+    AddAnswer::Added
+}
+
+fn copy_in(events: &mut [u8], at: usize, trace: &[u8])
+    requires { ⌜ at + length (now trace) ≤ length (now events) ⌝ }
+    ensures { λ r. ⌜ now (events .exit) ≡ sets (now (events .entry)) at (now (trace .entry)) ⌝ }
+{
+    let mut i = 0;
+    while i < trace.len() {
+        events[at + i] = trace[i];
+        i += 1;
+    }
+}
+
+// Appends the events and the end of a trace that add accepts.
+fn append(store: Store, events: &mut [u8], ends: &mut [u32], trace: &[u8]) -> Store
+    requires { ⌜ Answers (memory store (now events) (now ends)) (now trace) AddAnswer.Added ⌝ }
+    ensures { λ r. ⌜ memory r (now (events .exit)) (now (ends .exit)) ≡ with-trace (memory store (now (events .entry)) (now (ends .entry))) (now (trace .entry)) ⌝ }
+{
+    let last = last_end(store, ends) as usize;
+    copy_in(events, last, trace);
+    let traces = store.traces;
+    let count = traces as usize;
+    ends[count] = (last + trace.len()) as u32;
+    Store {
+        activities: store.activities,
+        traces: traces + 1,
+    }
+}
+
+// Appends a trace. A refused call changes no byte.
+pub fn add(store: Store, events: &mut [u8], ends: &mut [u32], trace: &[u8]) -> AddResult
+    ensures { λ r. ⌜ Adds (memory store (now (events .entry)) (now (ends .entry))) (now (trace .entry)) r (now (events .exit)) (now (ends .exit)) ⌝ }
+{
+    let answer = add_answer(store, events, ends, trace);
+    match answer {
+        AddAnswer::Refused(_) => AddResult { store, answer },
+        AddAnswer::Added => AddResult {
+            store: append(store, events, ends, trace),
+            answer,
+        },
+    }
 }

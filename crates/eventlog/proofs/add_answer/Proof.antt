@@ -1,0 +1,184 @@
+-- `eventlog::add_answer` meets its contract: each return from the tests that led there. Assumes nothing.
+use Prim.Native.Nat.{ℕ, _+_, _-_, _≤_, _<_}
+use native.Mathlib.Omega.{arith}
+use mathlib.Core.Path.{_≡_, sym, ap, _∙_}
+use mathlib.Core.Bool.{true}
+use mathlib.Core.List.{List, []}
+use borrow.Author.Tests.{lt-ltb, le-ltb, eq-eqb, ne-eqb, not-true, not-false}
+use lib.ListN.{drop}
+use lib.Seq.{take-all}
+use Rattle.eventlog.specs.Checks.{Check, reply}
+use Rattle.eventlog.specs.Store.{Memory, memory, sound, last-end, all-below}
+use Rattle.eventlog.specs.Calls.{checks-of-add, add-said}
+use Rattle.eventlog.proofs.Adding.{some-place, found-place, declared-answers}
+use Rattle.eventlog.proofs.Laws.{sound-facts}
+use Rattle.eventlog.proofs.Walks.{not-all-below}
+use borrow.Author.Needs.{needs}
+use Rattle.eventlog.proofs.add_answer.Statement.{statement}
+use Rattle.eventlog.proofs.add_answer.Tie as tie
+
+room-short : (room last new : ℕ) → room - last < new → room < last + new
+room-short room last new h = omega arith
+
+room-enough : (room last new : ℕ) → last ≤ room → new ≤ room - last → last + new ≤ room
+room-enough room last new h k = omega arith
+
+abbrev given : tie.Start → Memory
+given c = memory (c .args .store) (c .args .events .now) (c .args .ends .now)
+
+abbrev checks : tie.Start → List Check
+checks c = checks-of-add 0 (given c) (c .args .trace .now)
+
+abbrev start : tie.Else1 → tie.Start
+start c = c .before .before .before .before .before
+
+is-sound-yes : (c : tie.Else1) → sound (given (start c)) ≡ true
+is-sound-yes c = sym (c .before .is-sound .ensures) ∙ not-false (c .before .is-sound .result) (c .if1 .left)
+
+declared-yes :
+    (c : tie.Else2) →
+    let args = start (c .before .before) .args in
+    all-below (args .store .activities) (args .trace .now) ≡ true
+declared-yes c =
+    ap (all-below (start (c .before .before) .args .store .activities)) (sym (take-all _ _ (c .if2 .left)))
+    ∙ c .before .declared-front .ensures .1 .0
+
+-- past the checks 1, 6 and 7
+not-long :
+    (c : tie.Else3) →
+    let checks = checks (start (c .before .before .before)) in
+    reply checks [] ≡ reply (drop 3 checks) []
+not-long c =
+    simp (is-sound-yes (c .before .before .before), declared-yes (c .before), le-ltb _ _ (c .if3 .left))
+
+-- past the check 8 too
+not-full :
+    (c : tie.Else5) →
+    let checks = checks (start (c .before .before .before .before .before)) in
+    reply checks [] ≡ reply (drop 4 checks) []
+not-full c = not-long (c .before .before) ∙ simp (ne-eqb _ _ (c .before .if4 .left), ne-eqb _ _ (c .if5 .left))
+
+is-sound-requires : tie.Need-is-sound-requires
+is-sound-requires c κs = search needs
+
+refused-requires : tie.Need-refused-requires
+refused-requires c κs = search needs
+
+returns : tie.Need-returns
+returns c =
+    let args = c .before .before .before .before .before .before .args in
+    let place = some-place (args .store .activities) (args .trace .now) in
+    record {
+      place = place .0;
+      free = place .1;
+      says = simp (c .refused .ensures, ← c .before .before .is-sound .ensures, not-true (c .before .before .is-sound .result) (c .before .if1 .taken));
+    }
+
+declared-front-requires : tie.Need-declared-front-requires
+declared-front-requires c κs = search needs
+
+add-refused : tie.Need-add-refused
+add-refused c = search needs
+
+refused-requires-2 : tie.Need-refused-requires-2
+refused-requires-2 c κs = search needs
+
+returns-2 : tie.Need-returns-2
+returns-2 c =
+    let found = c .before .before in
+    let trace = start (found .before) .args .trace .now in
+    let within = c .before .if2 .taken in
+    let above = found .declared-front .ensures .1 .1 within in
+    record {
+      place = found .declared-front .result + 1;
+      free = λ undeclared. found-place _ trace _ within above;
+      says = simp (c .refused2 .ensures, is-sound-yes (found .before), not-all-below _ trace _ within above);
+    }
+
+cast-if3 : tie.Need-cast-if3
+cast-if3 c = search needs
+
+refused-requires-3 : tie.Need-refused-requires-3
+refused-requires-3 c κs = search needs
+
+returns-3 : tie.Need-returns-3
+returns-3 c =
+    let before = c .before .before in
+    declared-answers _ _ _ (declared-yes before)
+    (ap add-said (c .refused3 .ensures)
+    ∙ sym (simp (is-sound-yes (before .before .before), declared-yes before, lt-ltb _ _ (c .before .if3 .taken))))
+
+refused-requires-4 : tie.Need-refused-requires-4
+refused-requires-4 c κs = search needs
+
+returns-4 : tie.Need-returns-4
+returns-4 c =
+    let before = c .before .before in
+    declared-answers _ _ _ (declared-yes (before .before))
+    (ap add-said (c .refused4 .ensures) ∙ sym (not-long before ∙ simp (eq-eqb _ _ (c .before .if4 .taken))))
+
+cast-if5 : tie.Need-cast-if5
+cast-if5 c = search needs
+
+refused-requires-5 : tie.Need-refused-requires-5
+refused-requires-5 c κs = search needs
+
+returns-5 : tie.Need-returns-5
+returns-5 c =
+    let before = c .before .before in
+    declared-answers _ _ _ (declared-yes (before .before .before))
+    (ap add-said (c .refused5 .ensures)
+    ∙ sym (not-long (before .before) ∙ simp (ne-eqb _ _ (before .if4 .left), eq-eqb _ _ (c .before .if5 .taken))))
+
+last-end-requires : tie.Need-last-end-requires
+last-end-requires c κs = search needs
+
+cast-last : tie.Need-cast-last
+cast-last c = search needs
+
+sub-if6 : tie.Need-sub-if6
+unfolding last-end
+sub-if6 c = omega (arith, c .last-end .ensures, sound-facts _ (is-sound-yes (c .before .before .before .before .before .before)) .fits)
+
+refused-requires-6 : tie.Need-refused-requires-6
+refused-requires-6 c κs = search needs
+
+returns-6 : tie.Need-returns-6
+unfolding last-end
+returns-6 c =
+    let before = c .before .before in
+    declared-answers _ _ _ (declared-yes (before .before .before .before .before))
+    (ap add-said (c .refused6 .ensures)
+    ∙ sym (not-full (before .before) ∙ simp (← before .last-end .ensures, lt-ltb _ _ (room-short _ _ _ (c .before .if6 .taken)))))
+
+returns-7 : tie.Need-returns-7
+unfolding last-end
+returns-7 c =
+    declared-answers _ _ _ (declared-yes (c .before .before .before .before .before))
+    (sym (not-full (c .before .before) ∙ simp (← c .before .last-end .ensures, le-ltb _ _ (room-enough _ _ _ (sub-if6 (c .before)) (c .if6 .left)))))
+
+pub add-answer-spec : {M : Type 1} → statement M
+add-answer-spec =
+    tie.close
+    (tie.spec
+    is-sound-requires
+    refused-requires
+    returns
+    declared-front-requires
+    add-refused
+    refused-requires-2
+    returns-2
+    cast-if3
+    refused-requires-3
+    returns-3
+    refused-requires-4
+    returns-4
+    cast-if5
+    refused-requires-5
+    returns-5
+    last-end-requires
+    cast-last
+    sub-if6
+    refused-requires-6
+    returns-6
+    returns-7)
