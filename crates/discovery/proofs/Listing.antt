@@ -1,10 +1,10 @@
 -- The list by membership and order: exactly the constraints that meet the threshold, in the stated order, each once; and how many there are.
 -- Assumes nothing.
 use Prim.Native.Nat.{ℕ, zero, suc, _+_, _-_, _*_, _≤_, _<_}
-use mathlib.Core.Path.{_≡_, refl, sym, ap, subst, _∙_, fun-ext}
+use mathlib.Core.Path.{_≡_, refl, sym, ap, ap₂, subst, _∙_, fun-ext}
 use mathlib.Core.Logic.{_⊎_, inl, inr, ⊎-elim, _↔_, ∥∥₁-elim, ∥∥₁-map}
 use mathlib.Core.Bool.{Bool, true, false, not, true≢false, false≢true, Bool-set}
-use mathlib.Core.List.{List, [], _∷_, _++_, append-assoc, List·Memᴰ, List·Memᴰ·head, List·Memᴰ·tail, List·Mem, List·Memᴰ·not-nil, List·Memᴰ·cases-cons, List·Memᴰ·eq-of-singleton, List·Memᴰ·append-cases, Memᴰ·append-left, Memᴰ·append-right, Sublistᴰ, Sublistᴰ·slnil, Sublistᴰ·cons, Sublistᴰ·cons-cons, Pairwise, Pairwise·nil, Pairwise·cons, Pairwise·sublistᴰ, pairwise-singleton, pairwise-append}
+use mathlib.Core.List.{List, [], _∷_, _++_, append-assoc, List·Memᴰ, List·Memᴰ·head, List·Memᴰ·tail, List·Mem, List·Memᴰ·not-nil, List·Memᴰ·cases-cons, List·Memᴰ·eq-of-singleton, List·Memᴰ·append-cases, Memᴰ·append-left, Memᴰ·append-right, Sublistᴰ, Sublistᴰ·slnil, Sublistᴰ·cons, Sublistᴰ·cons-cons, Pairwise, Pairwise·nil, Pairwise·cons, Pairwise·sublistᴰ, pairwise-singleton, pairwise-append, rel-of-pairwise-cons, Pairwise·of-cons, not-mem-nil, mem-cons-self, mem-cons-of-mem, mem-of-ne-of-mem, mem-cast}
 use native.Mathlib.Omega.{arith}
 use native.Mathlib.Decide.{ℕ-discrete}
 use native.Mathlib.Bridge.{le-prop}
@@ -16,7 +16,7 @@ use Rattle.declare.specs.Logic.{_and_, _or_, _implies_, if_then_else_}
 use Rattle.discovery.specs.declared.Constraint.{Constraint}
 use Rattle.discovery.specs.Lists.{those, how-many, numbers-from, for-each}
 use Rattle.discovery.specs.Constraints.{pairs, constraints, trace-count, meets, fulfilments, survives, support, listed, replayed, layout}
-use Rattle.discovery.specs.Claims.{Over, Precedes}
+use Rattle.discovery.specs.Claims.{Over, Precedes, Exactly}
 use Rattle.discovery.proofs.Pruning.{how-many-cons, how-many-weaker, listed-survives}
 
 -- ## Members
@@ -152,17 +152,12 @@ exactly-prop n c t =
     pair-prop (λ x y. λ i. (le-prop (x .0) (y .0) i, le-prop (x .1) (y .1) i, le-prop (x .2) (y .2) i, le-prop (x .3) (y .3) i, Bool-set _ _ (x .4) (y .4) i))
     (Bool-set t true)
 
--- a constraint is in the list exactly where it is one over n activities and its count meets the threshold
-pub listed-exactly :
-    (n threshold : ℕ) (traces : List (List ℕ)) (c : Constraint) →
-    List·Mem c (listed n threshold traces) ↔ (Over n c × (meets threshold (trace-count traces) (fulfilments traces c) ≡ true))
-unfolding listed
-listed-exactly n threshold traces c =
+those-members :
+    (n : ℕ) (passes : Constraint → Bool) (c : Constraint) →
+    List·Mem c (those passes (constraints n)) ↔ (Over n c × (passes c ≡ true))
+those-members n passes c =
     (λ h. ∥∥₁-elim h (exactly-prop n c _) there, λ k. ∣ member-those passes c (constraints n) (over-constraints n c (k .0)) (k .1) ∣₁)
   where
-    passes : Constraint → Bool
-    passes c = meets threshold (trace-count traces) (fulfilments traces c)
-
     there : List·Memᴰ c (those passes (constraints n)) → Over n c × (passes c ≡ true)
     there h = let k = those-member passes c (constraints n) h in (constraints-over n c (k .0), k .1)
 
@@ -228,10 +223,83 @@ module _ (n : ℕ) where
           let y = in-grid t′ d in-d in
           inl (omega arith)
 
--- the list is in the stated order, so that nothing stands in it twice
-pub listed-ordered : (n threshold : ℕ) (traces : List (List ℕ)) → Pairwise Precedes (listed n threshold traces)
+pub those-exactly : (n : ℕ) (passes : Constraint → Bool) → Exactly n passes (those passes (constraints n))
+those-exactly n passes =
+    record {
+      members = those-members n passes;
+      in-order = Pairwise·sublistᴰ (those-sublist passes (constraints n)) (constraints-ordered n);
+    }
+
+-- the list has exactly the constraints whose count meets the threshold
+pub listed-exactly :
+    (n threshold : ℕ) (traces : List (List ℕ)) →
+    Exactly n (λ c. meets threshold (trace-count traces) (fulfilments traces c)) (listed n threshold traces)
 unfolding listed
-listed-ordered n threshold traces = Pairwise·sublistᴰ (those-sublist _ (constraints n)) (constraints-ordered n)
+listed-exactly n threshold traces = those-exactly n _
+
+-- the constraints that pruning keeps, as many as are replayed
+pub replayed-exactly :
+    (n threshold : ℕ) (traces : List (List ℕ)) →
+    (ks : List Constraint) × Exactly n (survives threshold traces) ks × (replayed n threshold traces ≡ length ks)
+unfolding replayed
+replayed-exactly n threshold traces = (those (survives threshold traces) (constraints n), those-exactly n _, refl)
+
+-- ## No other list is exactly this one
+
+never-both : (c d : Constraint) → Precedes c d → Precedes d c → ⊥
+never-both c d (inl h) (inl k) = omega arith
+never-both c d (inl h) (inr k) = omega (arith, k .0)
+never-both c d (inr h) (inl k) = omega (arith, h .0)
+never-both c d (inr h) (inr k) = go (h .1) (k .1)
+  where
+    go : (c .a < d .a) ⊎ ((c .a ≡ d .a) × (c .b < d .b)) → (d .a < c .a) ⊎ ((d .a ≡ c .a) × (d .b < c .b)) → ⊥
+    go (inl h) (inl k) = omega arith
+    go (inl h) (inr k) = omega (arith, k .0)
+    go (inr h) (inl k) = omega (arith, h .0)
+    go (inr h) (inr k) = omega (arith, h .1, k .1)
+
+equal? : (c d : Constraint) → Dec (c ≡ d)
+equal? c d = go (ℕ-discrete (c .template) (d .template)) (ℕ-discrete (c .a) (d .a)) (ℕ-discrete (c .b) (d .b))
+  where
+    go : Dec (c .template ≡ d .template) → Dec (c .a ≡ d .a) → Dec (c .b ≡ d .b) → Dec (c ≡ d)
+    go (yes p) (yes q) (yes r) = yes (λ i. record { template = p i; a = q i; b = r i })
+    go (yes p) (yes q) (no n) = no (λ e. n (ap (λ c. c .b) e))
+    go (yes p) (no n) r = no (λ e. n (ap (λ c. c .a) e))
+    go (no n) q r = no (λ e. n (ap (λ c. c .template) e))
+
+-- past the heads
+past : (c : Constraint) (cs ds : List Constraint) → Pairwise Precedes (c ∷ cs) → ((x : Constraint) → List·Mem x (c ∷ cs) → List·Mem x (c ∷ ds)) →
+    (x : Constraint) → List·Mem x cs → List·Mem x ds
+past c cs ds order within x h = mem-of-ne-of-mem (λ e. never-both c c (self e) (self e)) (within x (mem-cons-of-mem c h))
+  where
+    self : x ≡ c → Precedes c c
+    self e = rel-of-pairwise-cons order (mem-cast (sym e) h)
+
+ordered-equal :
+    (cs ds : List Constraint) → Pairwise Precedes cs → Pairwise Precedes ds →
+    ((x : Constraint) → List·Mem x cs → List·Mem x ds) → ((x : Constraint) → List·Mem x ds → List·Mem x cs) → cs ≡ ds
+ordered-equal [] [] p q f g = refl
+ordered-equal [] (d ∷ ds) p q f g = absurd (not-mem-nil (g d mem-cons-self))
+ordered-equal (c ∷ cs) [] p q f g = absurd (not-mem-nil (f c mem-cons-self))
+ordered-equal (c ∷ cs) (d ∷ ds) p q f g = go (equal? c d) (ordered-equal cs ds (Pairwise·of-cons p) (Pairwise·of-cons q))
+  where
+    head-is : {y z : Constraint} → y ≡ z → (x : Constraint) (l : List Constraint) → List·Mem x (y ∷ l) → List·Mem x (z ∷ l)
+    head-is e x l = subst (λ z. List·Mem x (z ∷ l)) e
+
+    go :
+        Dec (c ≡ d) →
+        (((x : Constraint) → List·Mem x cs → List·Mem x ds) → ((x : Constraint) → List·Mem x ds → List·Mem x cs) → cs ≡ ds) →
+        c ∷ cs ≡ d ∷ ds
+    go (yes e) rest =
+        ap₂ _∷_ e (rest (past c cs ds p (λ x h. head-is (sym e) x ds (f x h))) (past d ds cs q (λ x h. head-is e x cs (g x h))))
+    go (no n) rest =
+        absurd
+        (never-both c d (rel-of-pairwise-cons p (mem-of-ne-of-mem (λ e. n (sym e)) (g d mem-cons-self)))
+        (rel-of-pairwise-cons q (mem-of-ne-of-mem n (f c mem-cons-self))))
+
+pub exactly-one : (n : ℕ) (passes : Constraint → Bool) (cs ds : List Constraint) → Exactly n passes cs → Exactly n passes ds → cs ≡ ds
+exactly-one n passes cs ds p q =
+    ordered-equal cs ds (p .in-order) (q .in-order) (λ x h. q .members x .1 (p .members x .0 h)) (λ x h. p .members x .1 (q .members x .0 h))
 
 -- ## How many constraints there are
 

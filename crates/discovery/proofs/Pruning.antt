@@ -237,7 +237,7 @@ none-above : (t a b : ℕ) (trace : List ℕ) → 24 < t → fulfilled t a b tra
 unfolding fulfilled activated
 none-above t a b trace h =
     let above : (k : ℕ) → k ≤ 24 → leb t k ≡ false = λ k below. lt-leb t k (omega arith) in
-    simp (above 10 (omega arith), above 16 (omega arith), above 19 (omega arith), above 12 (omega arith), above 24 (omega arith), and-false)
+    simp (above 10 (omega arith), above 16 (omega arith), above 19 (omega arith), above 24 (omega arith), and-false)
 
 -- a trace that is fulfilled for a constraint counts for its class
 pub fulfilled-counts : (t a b : ℕ) (trace : List ℕ) → fulfilled t a b trace ≡ true → counts-for (class-of t) a b trace ≡ true

@@ -14,13 +14,17 @@ use Rattle.eventlog.specs.Calls.{unsound}
 use Rattle.discovery.specs.declared.FindAnswer.{FindAnswer}
 use Rattle.discovery.specs.Constraints.{trace-count, listed, replayed, layout}
 
+-- the checks of find, where so many constraints are to be listed and so many traces are kept
+abbrev pub checks-for : ℕ → ℕ → ℕ → List ℕ → List Check
+checks-for needed all threshold list =
+    (not (leb 1 threshold and leb threshold 1000) refuses 3 with 0) ∷
+    (eqb all 0 refuses 11 with 0) ∷
+    (ltb (length list) (4 * needed) refuses 10 with needed) ∷
+    []
+
 -- the checks of find over these traces
 abbrev pub find-checks : ℕ → List (List ℕ) → ℕ → List ℕ → List Check
-find-checks n traces threshold list =
-    (not (leb 1 threshold and leb threshold 1000) refuses 3 with 0) ∷
-    (eqb (trace-count traces) 0 refuses 11 with 0) ∷
-    (ltb (length list) (4 * length (listed n threshold traces)) refuses 10 with length (listed n threshold traces)) ∷
-    []
+find-checks n traces threshold list = checks-for (length (listed n threshold traces)) (trace-count traces) threshold list
 
 abbrev pub checks-of-find : Memory → ℕ → List ℕ → List Check
 checks-of-find m threshold list = unsound m ∷ find-checks (m .store .activities) (kept m) threshold list

@@ -2,9 +2,9 @@
 -- Assumes nothing.
 use Prim.Native.Nat.{ℕ, _≤_, _<_}
 use mathlib.Core.Path.{_≡_}
-use mathlib.Core.Logic.{_⊎_}
+use mathlib.Core.Logic.{_⊎_, _↔_}
 use mathlib.Core.Bool.{Bool, true, false}
-use mathlib.Core.List.{List, [], _∷_}
+use mathlib.Core.List.{List, [], _∷_, List·Mem, Pairwise}
 use lib.Dec.{eqb}
 use Rattle.declare.specs.Logic.{_and_}
 use Rattle.discovery.specs.declared.Constraint.{Constraint}
@@ -20,6 +20,11 @@ abbrev pub Precedes : Constraint → Constraint → Type 0
 Precedes c d =
     (c .template < d .template)
     ⊎ ((c .template ≡ d .template) × ((c .a < d .a) ⊎ ((c .a ≡ d .a) × (c .b < d .b))))
+
+-- the list has exactly the constraints over n activities that pass, in the stated order, each once
+pub record Exactly (n : ℕ) (passes : Constraint → Bool) (cs : List Constraint) : Type 0 where
+  pub members : (c : Constraint) → List·Mem c cs ↔ (Over n c × (passes c ≡ true))
+  pub in-order : Pairwise Precedes cs
 
 abbrev pub same : List ℕ → List ℕ → Bool
 same [] [] = true

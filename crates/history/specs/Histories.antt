@@ -1,15 +1,12 @@
 -- Histories, and what demand 3 claims of all of them.
 -- Assumes nothing.
-use Prim.Native.Nat.{ℕ, _+_, _-_, _*_, _≤_, _<_}
+use Prim.Native.Nat.{ℕ, _+_, _*_, _≤_}
 use mathlib.Core.Path.{_≡_}
-use mathlib.Core.Logic.{_⊎_, _↔_}
-use mathlib.Core.Bool.{Bool, true, false}
-use mathlib.Core.List.{List, [], _∷_, _++_, List·Mem, Pairwise}
-use lib.Dec.{eqb}
+use mathlib.Core.Bool.{true, false}
+use mathlib.Core.List.{List, [], _∷_, _++_}
 use lib.ListN.{length, take, drop}
-use Rattle.declare.specs.Logic.{_and_}
-use Rattle.eventlog.specs.Checks.{gives}
-use Rattle.eventlog.specs.Store.{Memory, all-below, most-activities}
+use Rattle.eventlog.specs.Checks.{gives, reply, when-passed}
+use Rattle.eventlog.specs.Store.{Memory, all-below, sound, kept}
 use Rattle.eventlog.specs.declared.OpenAnswer.{OpenAnswer}
 use Rattle.eventlog.specs.declared.AddResult.{AddResult}
 use Rattle.columns.specs.declared.ReadResult.{ReadResult}
@@ -17,12 +14,14 @@ use Rattle.discovery.specs.declared.FindAnswer.{FindAnswer}
 use Rattle.discovery.specs.declared.Constraint.{Constraint}
 use Rattle.eventlog.specs.Calls.{Room, room, Opens, open-said, Undeclared, Adds, add-said}
 use Rattle.columns.specs.Calls.{Reads, read-said}
-use Rattle.discovery.specs.Lists.{how-many}
-use Rattle.discovery.specs.Constraints.{pairs, trace-count, meets, fulfilments, survives, layout, listed, replayed}
-use Rattle.discovery.specs.Claims.{Over, Precedes, Alike}
-use Rattle.discovery.specs.Calls.{Finds, find-said}
+use Rattle.discovery.specs.Constraints.{trace-count, meets, fulfilments, survives, layout}
+use Rattle.discovery.specs.Claims.{Exactly, Alike}
+use Rattle.discovery.specs.Calls.{checks-for, Finds, find-said}
 use Rattle.history.specs.Ledger.{Call, open-for, add, read, find, Shown, only, Ledger, after, shows}
 
+-- ## Histories
+
+-- a refused open leaves the record there was
 abbrev pub opened : Memory → OpenAnswer → Memory
 opened m (OpenAnswer.Opened store) = record { store = store; events = m .events; ends = m .ends }
 opened m (OpenAnswer.Refused refusal) = m
@@ -40,12 +39,26 @@ Called m (read log) s m′ =
 Called m (find threshold list) s m′ =
     (answer : FindAnswer) × Finds m threshold list answer (s .list) × (s .said ≡ find-said answer) × (m′ ≡ m)
 
--- A history: each call gets the memory that the one before left.
-abbrev pub History : Memory → List Call → List Shown → Type 0
-History m [] [] = Unit {0}
-History m [] (s ∷ ss) = ⊥
-History m (c ∷ cs) [] = ⊥
-History m (c ∷ cs) (s ∷ ss) = (m′ : Memory) × Called m c s m′ × History m′ cs ss
+-- a fresh log for n activities: what an accepted open gives, beside buffers of any length and content
+abbrev pub Fresh : ℕ → Memory → Type 0
+Fresh n m = Opens n (OpenAnswer.Opened (m .store))
+
+-- the calls, from a memory to the last memory: each call gets the memory that the one before left
+abbrev pub History : Memory → List Call → List Shown → Memory → Type 0
+History m [] [] last = last ≡ m
+History m [] (s ∷ ss) last = ⊥
+History m (c ∷ cs) [] last = ⊥
+History m (c ∷ cs) (s ∷ ss) last = (m′ : Memory) × Called m c s m′ × History m′ cs ss last
+
+-- ## The ledger beside a history
+
+abbrev pub first-ledger : ℕ → Ledger
+first-ledger n = record { activities = n; traces = [] }
+
+-- the ledger after the calls
+abbrev pub after-all : Room → Ledger → List Call → Ledger
+after-all room l [] = l
+after-all room l (c ∷ cs) = after-all room (after room l c) cs
 
 -- the place is that of an undeclared activity, where the call is an add with one
 abbrev pub Free : ℕ → Call → ℕ → Type 0
@@ -62,60 +75,77 @@ Agrees room l (c ∷ cs) [] = ⊥
 Agrees room l (c ∷ cs) (s ∷ ss) =
     ((place : ℕ) × Free (l .activities) c place × (s ≡ shows place room l c)) × Agrees room (after room l c) cs ss
 
-abbrev pub fresh : ℕ → List ℕ → List ℕ → Memory
-fresh n events ends = record { store = record { activities = n; traces = 0 }; events = events; ends = ends }
+-- the ledger's traces are those kept in a memory
+pub record Keeps (space : Room) (l : Ledger) (m : Memory) : Type 0 where
+  pub is-sound : sound m ≡ true
+  pub traces : kept m ≡ l .traces
+  pub activities : m .store .activities ≡ l .activities
+  pub same-room : room m ≡ space
 
-abbrev pub first-ledger : ℕ → Ledger
-first-ledger n = record { activities = n; traces = [] }
+-- ## Finds
 
--- the ledger after the calls
-abbrev pub after-all : Room → Ledger → List Call → Ledger
-after-all room l [] = l
-after-all room l (c ∷ cs) = after-all room (after room l c) cs
-
--- A history from a fresh log, at some find in it: the calls before the find, the find, and what it showed.
+-- A history from a fresh log up to some find in it: the calls before, and what the find shows.
 pub record FindIn : Type 0 where
   pub n : ℕ
-  pub events : List ℕ
-  pub ends : List ℕ
+  pub start : Memory
+  pub is-fresh : Fresh n start
   pub before : List Call
   pub shown-before : List Shown
+  pub memory : Memory
+  pub history : History start before shown-before memory
   pub threshold : ℕ
   pub list : List ℕ
   pub shown : Shown
-  pub declared : (1 ≤ n) × (n ≤ most-activities)
-  pub history : History (fresh n events ends) (before ++ (find threshold list ∷ [])) (shown-before ++ (shown ∷ []))
+  pub memory′ : Memory
+  pub called : Called memory (find threshold list) shown memory′
 
 abbrev pub ledger-of : FindIn → Ledger
-ledger-of f = after-all (room (fresh (f .n) (f .events) (f .ends))) (first-ledger (f .n)) (f .before)
+ledger-of f = after-all (room (f .start)) (first-ledger (f .n)) (f .before)
 
--- What a find shows over a ledger's traces: the list, exactly, in order, each once, the rest of the slice as it was; and the numbers.
+-- What a find shows over a ledger's traces. `listed` has exactly the constraints whose count meets the threshold and `replayed` exactly
+-- those that pruning keeps, each in the stated order and once. The find is refused as it says, a list too short with the number needed;
+-- or it gives the numbers, and the slice has the list laid out at its front, and after it what was there.
 pub record Right (l : Ledger) (threshold : ℕ) (list : List ℕ) (shown : Shown) : Type 0 where
-  pub cs : List Constraint
-  pub exactly : (c : Constraint) → List·Mem c cs ↔ (Over (l .activities) c × (meets threshold (trace-count (l .traces)) (fulfilments (l .traces) c) ≡ true))
-  pub in-order : Pairwise Precedes cs
-  pub number-replayed : ℕ
-  pub kept-by-pruning : number-replayed ≡ replayed (l .activities) threshold (l .traces)
-  pub at-most : number-replayed + 6 * l .activities ≤ 14 * l .activities * l .activities
-  pub said : shown .said ≡ gives (length cs ∷ number-replayed ∷ trace-count (l .traces) ∷ [])
-  pub written : take (4 * length cs) (shown .list) ≡ layout (l .traces) cs
-  pub unchanged : drop (4 * length cs) (shown .list) ≡ drop (4 * length cs) list
+  pub listed : List Constraint
+  pub exactly : Exactly (l .activities) (λ c. meets threshold (trace-count (l .traces)) (fulfilments (l .traces) c)) listed
+  pub replayed : List Constraint
+  pub kept-by-pruning : Exactly (l .activities) (survives threshold (l .traces)) replayed
+  pub at-most : length replayed + 6 * l .activities ≤ 14 * l .activities * l .activities
+  pub said :
+      shown .said ≡
+      reply (checks-for (length listed) (trace-count (l .traces)) threshold list)
+      (length listed ∷ length replayed ∷ trace-count (l .traces) ∷ [])
+  pub written :
+      shown .list ≡
+      when-passed (checks-for (length listed) (trace-count (l .traces)) threshold list)
+      (layout (l .traces) listed ++ drop (4 * length listed) list) list
 
-abbrev pub Enough : Ledger → ℕ → List ℕ → Type 0
-Enough l threshold list =
-    (1 ≤ threshold) × (threshold ≤ 1000) × (1 ≤ trace-count (l .traces))
-    × (4 * length (listed (l .activities) threshold (l .traces)) ≤ length list)
+-- the find was accepted
+abbrev pub Accepted : FindIn → Type 0
+Accepted f = (values : List ℕ) × (f .shown .said ≡ gives values)
+
+-- two finds over as many activities, with one threshold and with alike traces
+pub record AlikeFinds (f g : FindIn) : Type 0 where
+  pub activities : ledger-of f .activities ≡ ledger-of g .activities
+  pub threshold : f .threshold ≡ g .threshold
+  pub traces : Alike (ledger-of f .traces) (ledger-of g .traces)
+
+-- two finds give equal lists and numbers
+pub record EqualFinds (f g : FindIn) : Type 0 where
+  pub listed : ℕ
+  pub replayed : ℕ
+  pub all : ℕ
+  pub said : f .shown .said ≡ gives (listed ∷ replayed ∷ all ∷ [])
+  pub said′ : g .shown .said ≡ gives (listed ∷ replayed ∷ all ∷ [])
+  pub lists : take (4 * listed) (f .shown .list) ≡ take (4 * listed) (g .shown .list)
 
 -- Demand 3: one claim about all histories.
-pub record Demand3 : Type 1 where
+pub record Demand3 : Type 0 where
   pub agrees :
-      (n : ℕ) (events ends : List ℕ) (cs : List Call) (ss : List Shown) → 1 ≤ n → n ≤ most-activities →
-      History (fresh n events ends) cs ss → Agrees (room (fresh n events ends)) (first-ledger n) cs ss
-  pub right : (f : FindIn) → Enough (ledger-of f) (f .threshold) (f .list) → Right (ledger-of f) (f .threshold) (f .list) (f .shown)
-  pub alike :
-      (f g : FindIn) → Enough (ledger-of f) (f .threshold) (f .list) → Enough (ledger-of g) (g .threshold) (g .list) →
-      ledger-of f .activities ≡ ledger-of g .activities → f .threshold ≡ g .threshold →
-      Alike (ledger-of f .traces) (ledger-of g .traces) →
-      (f .shown .said ≡ g .shown .said)
-      × (let k = 4 * length (listed (ledger-of f .activities) (f .threshold) (ledger-of f .traces)) in
-      take k (f .shown .list) ≡ take k (g .shown .list))
+      (n : ℕ) (m last : Memory) (cs : List Call) (ss : List Shown) → Fresh n m → History m cs ss last →
+      Agrees (room m) (first-ledger n) cs ss
+  pub keeps :
+      (n : ℕ) (m last : Memory) (cs : List Call) (ss : List Shown) → Fresh n m → History m cs ss last →
+      Keeps (room m) (after-all (room m) (first-ledger n) cs) last
+  pub right : (f : FindIn) → Right (ledger-of f) (f .threshold) (f .list) (f .shown)
+  pub alike : (f g : FindIn) → Accepted f → Accepted g → AlikeFinds f g → EqualFinds f g
