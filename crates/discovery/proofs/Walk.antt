@@ -8,7 +8,10 @@ use native.Mathlib.Numerals.{add-one}
 use native.Mathlib.Omega.{arith}
 use lib.ListN.{length, take, drop, getD, drop-of-length-le}
 use lib.Seq.{slice, take-add, drop-at, drop-cons, getD-take, length-take-le}
-use Rattle.declare.specs.Logic.{if_then_else_}
+use Rattle.declare.specs.Logic.{_and_, if_then_else_}
+use Rattle.declare.specs.declared.Verdict.{Verdict}
+use Rattle.declare.specs.declared.Verdict.the-variants.{Fulfilled, NotActivated, Violated}
+use Rattle.declare.specs.Meaning.{activated, holds, fulfilled, verdict}
 use Rattle.eventlog.specs.Store.{Memory, cut, kept, last-from, last-end, rising, sound}
 use Rattle.eventlog.proofs.Laws.{kept-ends, Sound, sound-facts, Rises, rising-facts, rises-on}
 use Rattle.discovery.specs.Lists.{those, how-many}
@@ -21,6 +24,21 @@ part-slice from to l h k =
     ap (λ (n : ℕ). slice from n l) e
     ∙ ap (drop from) (take-add from (to - from) l)
     ∙ drop-at (take from l) (take (to - from) (drop from l)) from (length-take-le from l (omega arith)))
+
+-- a trace is fulfilled where the verdict says so
+abbrev pub is-fulfilled : Verdict → Bool
+is-fulfilled Fulfilled = true
+is-fulfilled NotActivated = false
+is-fulfilled Violated = false
+
+pub verdict-fulfilled : (t a b : ℕ) (trace : List ℕ) → fulfilled t a b trace ≡ is-fulfilled (verdict t a b trace)
+unfolding fulfilled verdict
+verdict-fulfilled t a b trace = go (activated t a b trace) (holds t a b trace)
+  where
+    go : (p q : Bool) → (p and q) ≡ is-fulfilled (if p then (if q then Fulfilled else Violated) else NotActivated)
+    go true true = refl
+    go true false = refl
+    go false q = refl
 
 -- at the k-th of so many traces, which starts at `from`, with this count of those before it that pass
 pub record Walk (p : List ℕ → Bool) (events ends : List ℕ) (traces count from k : ℕ) : Type 0 where

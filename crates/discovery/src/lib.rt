@@ -6,9 +6,9 @@ ghost use Prim.Native.Nat.{_+_, _*_, _≤_, _<_};
 ghost use lib.ListN.{set};
 ghost use lib.Seq.{sets};
 ghost use mathlib.Core.List.{[], _∷_};
-ghost use Rattle.declare.specs.Meaning.{fulfilled, verdict};
 ghost use Rattle.discovery.specs.Constraints.{class-of, counts-for, support as support-of, meets as meets-test, pairs as pairs-test, survives};
 ghost use Rattle.discovery.specs.Passes.{Replays, Passes, cell, row, grid};
+use declare::Verdict;
 use eventlog::Refusal;
 use eventlog::Store;
 
@@ -145,4 +145,39 @@ fn write(list: &mut [u16], listed: u32, c: Constraint, count: u16)
     put(list, at + 1, c.a as u16);
     put(list, at + 2, c.b as u16);
     put(list, at + 3, count);
+}
+
+// Replays a constraint that pruning keeps over the log, each trace as a part of the events.
+fn replay(
+    store: Store,
+    events: &[u8],
+    ends: &[u32],
+    threshold: u32,
+    c: Constraint,
+    replayed: u32,
+) -> Replayed
+    requires { ⌜ sound (memory store (now events) (now ends)) ≡ true ⌝ }
+    requires { ⌜ survives threshold (kept (memory store (now events) (now ends))) c ≡ true ⌝ }
+    requires { ⌜ replayed ≤ 65535 ⌝ }
+    ensures { λ r. ⌜ Replays (kept (memory store (now (events .entry)) (now (ends .entry)))) c replayed r ⌝ }
+{
+    let traces = store.traces as usize;
+    let mut fulfilled: u32 = 0;
+    let mut from: usize = 0;
+    let mut k: usize = 0;
+    while k < traces {
+        let to = ends[k] as usize;
+        let verdict = declare::replay(c.template, c.a, c.b, &events[from..to]);
+        match verdict {
+            Verdict::Fulfilled => fulfilled += 1,
+            Verdict::NotActivated => {}
+            Verdict::Violated => {}
+        }
+        from = to;
+        k += 1;
+    }
+    Replayed {
+        fulfilled,
+        replayed: replayed + 1,
+    }
 }
