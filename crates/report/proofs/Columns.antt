@@ -2,14 +2,15 @@
 -- Assumes nothing.
 use Prim.Native.Nat.{ℕ, zero, suc, _+_, _-_, _/_, _%_, _≤_, _<_}
 use native.Mathlib.Omega.{arith}
-use mathlib.Core.Path.{_≡_, refl, sym, ap, _∙_}
+use mathlib.Core.Path.{_≡_, refl, ap, _∙_}
 use mathlib.Core.Bool.{Bool, true, false}
-use mathlib.Core.List.{List, [], _∷_, _++_, append-assoc}
+use mathlib.Core.List.{List, [], _∷_, _++_}
 use borrow.Author.Tests.{leb-true, leb-false, ne-eqb}
 use lib.Dec.{leb}
 use lib.ListN.{length, set, replicate, length-append}
 use lib.Seq.{sets}
-use Rattle.columns.specs.Field.{blank, digits-of, reversed-onto, spell}
+use Rattle.columns.specs.Field.{blank, spell}
+use Rattle.columns.proofs.Fields.{length-spell, spell-long, spell-short}
 use Rattle.report.specs.Print.{column-of}
 use Rattle.report.proofs.Stores.{set-then-sets}
 
@@ -31,30 +32,9 @@ filled-zero : (width : ℕ) → filled width 0 ≡ replicate width blank
 filled-zero zero = refl
 filled-zero (suc width) = rw (filled-zero width) (blanks-and-one width)
 
-reversed-append : (xs bytes : List ℕ) → reversed-onto bytes xs ≡ reversed-onto [] xs ++ bytes
-reversed-append [] bytes = refl
-reversed-append (x ∷ xs) bytes =
-    reversed-append xs (x ∷ bytes) ∙ sym (append-assoc (reversed-onto [] xs) (x ∷ []) bytes)
-    ∙ ap (λ (l : List ℕ). l ++ bytes) (sym (reversed-append xs (x ∷ [])))
-
--- a number of two digits or more: the field of those before the last, and the last
-spell-more : (width n : ℕ) → leb 10 n ≡ true → spell (suc width) n ≡ spell width (n / 10) ++ (48 + n % 10) ∷ []
-unfolding spell
-spell-more width n h =
-    let digits = digits-of width (n / 10) in
-    let shorter : suc width - (length (reversed-onto [] digits) + 1) ≡ width - length (reversed-onto [] digits) = omega arith in
-    rw (h, reversed-append digits ((48 + n % 10) ∷ []), length-append, shorter) (sym (append-assoc (replicate (width - length (reversed-onto [] digits)) blank) (reversed-onto [] digits) ((48 + n % 10) ∷ [])))
-
--- a number of one digit
-spell-one : (width n : ℕ) → leb 10 n ≡ false → spell (suc width) n ≡ replicate width blank ++ (48 + n % 10) ∷ []
-unfolding spell
-spell-one width n h =
-    let shorter : suc width - 1 ≡ width = omega arith in
-    rw (h, shorter)
-
-spell-none : (n : ℕ) → spell 0 n ≡ []
-unfolding spell
-spell-none n = refl
+length-zero : (l : List ℕ) → length l ≡ 0 → l ≡ []
+length-zero [] h = refl
+length-zero (x ∷ l) h = absurd (omega arith)
 
 Filled : ℕ → Type 0
 Filled width = (n : ℕ) → 1 ≤ n → spell width n ≡ filled width n
@@ -63,23 +43,22 @@ columns-by :
     (width n : ℕ) → Filled width → (more : Bool) → leb 10 n ≡ more → spell (suc width) n ≡ filled width (n / 10) ++ (48 + n % 10) ∷ []
 unfolding Filled
 columns-by width n before true h =
-    spell-more width n h ∙ ap (λ (l : List ℕ). l ++ (48 + n % 10) ∷ []) (before (n / 10) (omega (arith, leb-true 10 n h)))
+    let more : 10 ≤ n = leb-true 10 n h in
+    spell-long width n more ∙ rw (before (n / 10) (omega arith))
 columns-by width n before false h =
-    let none : n / 10 ≡ 0 = omega (arith, leb-false 10 n h) in
-    spell-one width n h ∙ rw (none, filled-zero width)
+    let one : n < 10 = leb-false 10 n h in
+    let none : n / 10 ≡ 0 = omega arith in
+    let digit : n % 10 ≡ n = omega arith in
+    spell-short width n one ∙ rw (none, filled-zero width, digit)
 
 spell-filled : (width : ℕ) → Filled width
 unfolding Filled
-spell-filled zero n h = spell-none n
+spell-filled zero n h = length-zero (spell 0 n) (length-spell 0 n)
 spell-filled (suc width) n h = rw (ne-eqb n 0 (omega arith)) (columns-by width n (spell-filled width) (leb 10 n) refl)
 
 -- a field is its columns before the last, and the last digit
 pub spell-columns : (width n : ℕ) → spell (suc width) n ≡ filled width (n / 10) ++ (48 + n % 10) ∷ []
 spell-columns width n = columns-by width n (spell-filled width) (leb 10 n) refl
-
-pub length-spell : (width n : ℕ) → 1 ≤ width → length (spell width n) ≡ width
-length-spell zero n h = absurd (omega arith)
-length-spell (suc width) n h = rw (spell-columns width n, length-append, length-filled width (n / 10)) (omega arith)
 
 -- the store of a column leaves those before it to be stored
 pub column-stored :

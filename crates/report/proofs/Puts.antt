@@ -4,8 +4,8 @@ use Prim.Native.Nat.{ℕ, zero, suc, _+_, _*_}
 use native.Mathlib.Omega.{arith}
 use mathlib.Core.Path.{_≡_, sym, ap, _∙_}
 use mathlib.Core.List.{List, _++_, append-nil, append-assoc}
-use lib.ListN.{length, drop, getD, length-append}
-use lib.Seq.{sets, getD-drop}
+use lib.ListN.{drop, length-append}
+use lib.Seq.{getD-drop}
 use Rattle.report.specs.Puts.{Puts, line-at, lines-of}
 use Rattle.report.proofs.Stores.{sets-append}
 

@@ -2,3 +2,4 @@ pub mod Examples
 pub mod Print
 pub mod Puts
 pub mod Report
+pub mod Steps

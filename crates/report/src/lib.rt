@@ -1,4 +1,5 @@
 // All that findrules does between its input and its output.
+use columns::Field;
 ghost use mathlib.Core.Path.{_≡_};
 ghost use mathlib.Core.List.{[], _∷_, _++_};
 ghost use Prim.Native.Nat.{ℕ, _+_, _*_, _≤_, _<_};
@@ -7,6 +8,7 @@ ghost use lib.ListN.{length, getD, drop, replicate};
 ghost use Rattle.declare.specs.Logic.{if_then_else_};
 ghost use Rattle.columns.specs.Field.{blank, line-feed, spell};
 ghost use Rattle.report.specs.Print.{column-of, refusal-line, first-line, constraint-line};
+ghost use Rattle.report.specs.Steps.{both-set, settings-of};
 ghost use Rattle.report.specs.Puts.{Puts, line-at, lines-of};
 
 fn wide(x: u16) -> usize
@@ -120,4 +122,36 @@ fn refuse(out: &mut [u8], number: usize, detail: usize) -> usize
     let after_number = put_field(out, 0, 2, number);
     let after_detail = put_field(out, after_number, 6, detail);
     put_line_feed(out, after_detail)
+}
+
+// What the settings line sets: the activities declared, and the threshold.
+enum Settings {
+    Set(u32, u32),
+    Malformed,
+}
+
+fn both_set(n: Field, threshold: Field) -> Settings
+    ensures { λ r. ⌜ r ≡ both-set n threshold ⌝ }
+{
+    match n {
+        Field::Number(n) => match threshold {
+            Field::Number(threshold) => Settings::Set(n, threshold),
+            Field::Malformed => Settings::Malformed,
+        },
+        Field::Malformed => Settings::Malformed,
+    }
+}
+
+fn read_settings(input: &[u8]) -> Settings
+    ensures { λ r. ⌜ r ≡ settings-of (now (input .entry)) ⌝ }
+{
+    if input.len() < 8 {
+        return Settings::Malformed;
+    }
+    if input[7] != 10 {
+        return Settings::Malformed;
+    }
+    let n = columns::read_field(&input[..3]);
+    let threshold = columns::read_field(&input[3..7]);
+    both_set(n, threshold)
 }

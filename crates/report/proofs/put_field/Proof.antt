@@ -1,6 +1,6 @@
 -- `report::put_field` meets its contract. The loop's invariant: what is still to be stored makes the same of the text as was to be stored at first.
 -- Assumes nothing.
-use Prim.Native.Nat.{ℕ, _+_, _-_, _/_, _≤_, _<_}
+use Prim.Native.Nat.{ℕ, _≤_}
 use mathlib.Core.List.{List}
 use native.Mathlib.Omega.{arith}
 use mathlib.Core.Path.{_≡_, refl, _∙_}
@@ -8,12 +8,10 @@ use borrow.Author.Needs.{needs}
 use lib.ListN.{length, length-set}
 use lib.Seq.{sets}
 use denote.Ref.{now}
-use Rattle.report.proofs.Columns.{filled, length-spell, column-stored, digit-stored}
+use Rattle.columns.proofs.Fields.{length-spell}
+use Rattle.report.proofs.Columns.{filled, column-stored, digit-stored}
 use Rattle.report.proofs.put_field.Statement.{statement}
 use Rattle.report.proofs.put_field.Tie as tie
-use Rattle.report.proofs.put_field.Reads as reads
-use Rattle.report.proofs.put_field.Lts as lts
-use Rattle.report.proofs.column.Reads as column-reads
 
 record Filling (out₀ : List ℕ) (at left₀ rest₀ : ℕ) (out : List ℕ) (left rest : ℕ) : Type 0 where
   pub columns : left ≤ left₀
@@ -79,7 +77,7 @@ returns c =
     let args = c .before .before .before .args in
     let none : c .before .loop .left ≡ 0 = omega arith in
     record {
-      sized = length-spell (args .width) (args .n) (omega arith);
+      sized = length-spell (args .width) (args .n);
       follows = refl;
       stores = (rw none at (c .before .loop .inv .makes)) ∙ digit-stored (now (args .out)) (args .at) (args .width) (args .n) (omega arith);
     }
