@@ -19,7 +19,8 @@ use Rattle.columns.specs.declared.Scan.{Scan}
 use Rattle.columns.specs.declared.Scan.the-variants.{Blanks, Digits, Broken}
 use Rattle.columns.specs.Field.{blank, is-digit, all-digits, numeral, well-formed, value-from, value, digits-of, reversed-onto, spell, widest, field-of}
 use Rattle.columns.specs.Scan.{scan-byte, scan-from, so-far, finish}
-use Rattle.columns.proofs.Bools.{either, clash, and-left, and-right, both}
+use Rattle.eventlog.proofs.Laws.{and-left, and-right, and-both}
+use Rattle.columns.proofs.Bools.{either, clash}
 
 -- ## Spelling, from the right
 
@@ -99,7 +100,7 @@ digit-is : (d : ℕ) → is-digit d ≡ true → (48 ≤ d) × (d ≤ 57)
 digit-is d e = (leb-true 48 d (and-left (leb 48 d) (leb d 57) e), leb-true d 57 (and-right (leb 48 d) (leb d 57) e))
 
 is-a-digit : (d : ℕ) → 48 ≤ d → d ≤ 57 → is-digit d ≡ true
-is-a-digit d low high = both (leb 48 d) (leb d 57) (le-leb 48 d low) (le-leb d 57 high)
+is-a-digit d low high = and-both (leb 48 d) (leb d 57) (le-leb 48 d low) (le-leb d 57 high)
 
 not-blank : (d : ℕ) → is-digit d ≡ true → eqb d blank ≡ false
 not-blank d e = let h = digit-is d e in ne-eqb d 32 (λ q. omega arith)
@@ -122,7 +123,7 @@ leading b c cs p =
 numeral-of :
     (b c : ℕ) (cs : List ℕ) → is-digit b ≡ true → not (eqb b 48) ≡ true → all-digits (c ∷ cs) ≡ true → numeral (b ∷ (c ∷ cs)) ≡ true
 numeral-of b c cs p q r =
-    both (is-digit b) (not (eqb b 48) and all-digits (c ∷ cs)) p (both (not (eqb b 48)) (all-digits (c ∷ cs)) q r)
+    and-both (is-digit b) (not (eqb b 48) and all-digits (c ∷ cs)) p (and-both (not (eqb b 48)) (all-digits (c ∷ cs)) q r)
 
 pub value-snoc :
     (v : ℕ) (xs : List ℕ) (d : ℕ) → is-digit d ≡ true →
@@ -134,9 +135,9 @@ value-snoc v (b ∷ bs) d e =
     (λ q. rw q (value-snoc (v * 10 + (b - 48)) bs d e))
 
 digits-snoc : (xs : List ℕ) (d : ℕ) → all-digits xs ≡ true → is-digit d ≡ true → all-digits (xs ++ (d ∷ [])) ≡ true
-digits-snoc [] d p e = both (is-digit d) true e refl
+digits-snoc [] d p e = and-both (is-digit d) true e refl
 digits-snoc (b ∷ bs) d p e =
-    both (is-digit b) (all-digits (bs ++ (d ∷ []))) (first-digit b bs p) (digits-snoc bs d (other-digits b bs p) e)
+    and-both (is-digit b) (all-digits (bs ++ (d ∷ []))) (first-digit b bs p) (digits-snoc bs d (other-digits b bs p) e)
 
 not-zero : (b : ℕ) → 1 ≤ b - 48 → not (eqb b 48) ≡ true
 not-zero b h = rw (ne-eqb b 48 (λ q. omega arith))

@@ -1,2 +1,4 @@
 pub mod Bools
 pub mod Fields
+pub mod Lines
+pub mod Passes

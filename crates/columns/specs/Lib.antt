@@ -3,3 +3,4 @@ pub mod Examples
 pub mod Field
 pub mod Log
 pub mod Scan
+pub mod Survey

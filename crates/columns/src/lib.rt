@@ -1,8 +1,11 @@
 use eventlog::Refusal;
 use eventlog::Store;
 ghost use Prim.Native.Nat.{_+_, _≤_, _<_};
+ghost use lib.ListN.{length, take, drop};
 ghost use mathlib.Core.Path.{_≡_};
 ghost use Rattle.columns.specs.Field.{field-of};
+ghost use Rattle.columns.specs.Log.{line-of, lines};
+ghost use Rattle.columns.specs.Survey.{entry-of, Within, full-of, unplaced-of, fault-of, next-of, step-of, survey-of};
 ghost use Rattle.columns.specs.Scan.{scan-byte, finish, so-far};
 
 pub enum ReadAnswer {
@@ -95,4 +98,177 @@ pub fn read_field(bytes: &[u8]) -> Field
         i += 1;
     }
     finished(scan)
+}
+
+const MOST_TRACES: u32 = 4095;
+
+const LONGEST_TRACE: u32 = 4096;
+
+// What a line of a log holds: a trace's number and one of its events.
+enum Entry {
+    Malformed,
+    Event { number: u32, activity: u32 },
+}
+
+fn read_line(bytes: &[u8]) -> Entry
+    ensures { λ r. ⌜ r ≡ entry-of (line-of (now (bytes .entry))) ⌝ }
+{
+    if bytes.len() != 10 {
+        return Entry::Malformed;
+    }
+    if bytes[9] != 10 {
+        return Entry::Malformed;
+    }
+    let Field::Number(number) = read_field(&bytes[0..6]) else {
+        return Entry::Malformed;
+    };
+    if number < 1 {
+        return Entry::Malformed;
+    }
+    let Field::Number(activity) = read_field(&bytes[6..9]) else {
+        return Entry::Malformed;
+    };
+    Entry::Event { number, activity }
+}
+
+// The line that starts at a place of the log, the last of which may be cut short.
+fn line_at(log: &[u8], at: usize) -> Entry
+    requires { ⌜ at < length (now log) ⌝ }
+    ensures { λ r. ⌜ r ≡ entry-of (line-of (take 10 (drop at (now (log .entry))))) ⌝ }
+{
+    if log.len() - at < 10 {
+        return Entry::Malformed;
+    }
+    let end = at + 10;
+    read_line(&log[at..end])
+}
+
+// What a log is read onto: its activities, its traces so far, and the buffers' lengths.
+struct Limits {
+    activities: u32,
+    traces: u32,
+    events: usize,
+    ends: usize,
+}
+
+// How far a log is read: the number of the last line, how many events its trace can still take (none before the first line),
+// how many traces the lines spell, and the end of the last of them.
+struct Progress {
+    number: u32,
+    left: u32,
+    added: u32,
+    last: u32,
+}
+
+enum Step {
+    Next(Progress),
+    Fault(u8),
+}
+
+fn is_full(limits: Limits, p: Progress) -> bool
+    requires { ⌜ Within limits p ⌝ }
+    ensures { λ r. ⌜ r ≡ full-of limits p ⌝ }
+{
+    let count = limits.traces + p.added;
+    if count == MOST_TRACES {
+        return true;
+    }
+    count as usize == limits.ends
+}
+
+fn unplaced(limits: Limits, p: Progress) -> u8
+    ensures { λ r. ⌜ r ≡ unplaced-of limits p ⌝ }
+{
+    if limits.events <= p.last as usize {
+        9
+    } else {
+        0
+    }
+}
+
+// The number that a laid-out line is refused with, 0 where it has no fault.
+fn fault(limits: Limits, p: Progress, number: u32, activity: u32) -> u8
+    requires { ⌜ Within limits p ⌝ }
+    ensures { λ r. ⌜ r ≡ fault-of limits p number activity ⌝ }
+{
+    if number < p.number {
+        return 5;
+    }
+    if limits.activities <= activity {
+        return 6;
+    }
+    if number == p.number {
+        if p.left == 0 {
+            return 7;
+        }
+        return unplaced(limits, p);
+    }
+    if is_full(limits, p) {
+        return 8;
+    }
+    unplaced(limits, p)
+}
+
+fn next(p: Progress, number: u32) -> Progress
+    requires { ⌜ (p .added < 4096) × (p .last ≤ 16773120) × (number ≡ p .number → 1 ≤ p .left) ⌝ }
+    ensures { λ r. ⌜ r ≡ next-of p number ⌝ }
+{
+    if number == p.number {
+        return Progress {
+            number,
+            left: p.left - 1,
+            added: p.added,
+            last: p.last + 1,
+        };
+    }
+    Progress {
+        number,
+        left: LONGEST_TRACE - 1,
+        added: p.added + 1,
+        last: p.last + 1,
+    }
+}
+
+// One line: how far the log is read after it, or the number that it is refused with.
+fn take_line(limits: Limits, p: Progress, entry: Entry) -> Step
+    requires { ⌜ Within limits p ⌝ }
+    ensures { λ r. ⌜ r ≡ step-of limits p entry ⌝ }
+{
+    match entry {
+        Entry::Malformed => Step::Fault(4),
+        Entry::Event { number, activity } => {
+            let found = fault(limits, p, number, activity);
+            if found == 0 {
+                Step::Next(next(p, number))
+            } else {
+                Step::Fault(found)
+            }
+        }
+    }
+}
+
+// The answer to a log, before anything is written: the traces to be added, or the first line's refusal.
+fn survey(limits: Limits, start: Progress, log: &[u8]) -> ReadAnswer
+    requires { ⌜ Within limits start ⌝ }
+    ensures { λ r. ⌜ r ≡ survey-of limits start 1 (lines (now (log .entry))) ⌝ }
+{
+    let mut p = start;
+    let mut at: usize = 0;
+    let mut place: usize = 1;
+    while at < log.len() {
+        match take_line(limits, p, line_at(log, at)) {
+            Step::Next(q) => {
+                p = q;
+            }
+            Step::Fault(number) => {
+                return ReadAnswer::Refused(Refusal {
+                    number,
+                    detail: place,
+                });
+            }
+        }
+        at += 10;
+        place += 1;
+    }
+    ReadAnswer::Added(p.added)
 }

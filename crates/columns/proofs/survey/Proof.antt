@@ -1,0 +1,90 @@
+-- `survey` meets its contract. The loop's invariant: the answer from here on is the answer to the whole log.
+-- Assumes nothing.
+use Prim.Native.Nat.{_+_, _-_, _≤_}
+use mathlib.Core.Path.{_≡_, refl, sym, ap, _∙_}
+use native.Mathlib.Omega.{arith}
+use borrow.Author.Needs.{needs}
+use lib.ListN.{length, take, drop}
+use Rattle.columns.specs.declared.Step.{Step}
+use Rattle.columns.specs.Log.{line-of, lines}
+use Rattle.columns.specs.Survey.{Within, entry-of, step-of, survey-of}
+use Rattle.columns.proofs.Passes.{within-step, survey-on, survey-stops, survey-ends}
+use Rattle.columns.proofs.survey.Statement.{statement}
+use Rattle.columns.proofs.survey.Tie as tie
+
+abbrev Inv-loop : tie.InvT-loop
+Inv-loop limits log p₀ at₀ place₀ p at place =
+    Within limits p × (place ≤ at + 1) × (survey-of limits p place (lines (drop at log)) ≡ survey-of limits p₀ 1 (lines log))
+
+abbrev μ-loop : tie.MeasureT-loop
+μ-loop limits log p₀ at₀ place₀ p at place = length log - at
+
+loop-holds : tie.Need-loop-holds Inv-loop μ-loop
+loop-holds c = (c .before .pre, omega arith, refl)
+
+line-at-requires : tie.Need-line-at-requires Inv-loop μ-loop
+line-at-requires c κs = c .loop-test .taken
+
+take-line-requires : tie.Need-take-line-requires Inv-loop μ-loop
+take-line-requires c κs = c .before .before .loop .inv .0
+
+enum-known-q : tie.Need-enum-known-q Inv-loop μ-loop
+enum-known-q c = search needs
+
+enum-known-number : tie.Need-enum-known-number Inv-loop μ-loop
+enum-known-number c = search needs
+
+returns : tie.Need-returns Inv-loop μ-loop
+returns c =
+    let log = c .before .before .before .before .before .before .before .before .args .log .now in
+    let limits = c .before .before .before .before .before .before .before .before .args .limits in
+    let at = c .before .before .before .before .before .before .loop in
+    let stops : step-of limits (at .p) (entry-of (line-of (take 10 (drop (at .at) log)))) ≡ Step.Fault (c .before .number .given .0 .0) =
+    ap (step-of limits (at .p)) (sym (c .before .before .before .before .line-at .ensures)) ∙ sym (c .before .before .before .take-line .ensures) ∙ c .before .number .given .1 in
+    sym (survey-stops limits (at .p) (at .place) log (at .at) (c .before .before .before .before .before .loop-test .taken) _ stops) ∙ at .inv .2
+
+add-at : tie.Need-add-at Inv-loop μ-loop
+add-at c = omega (arith, c .before .before .before .before .before .loop-test .taken)
+
+add-place : tie.Need-add-place Inv-loop μ-loop
+add-place c = omega (arith, c .before .before .before .before .before .loop-test .taken, c .before .before .before .before .before .before .loop .inv .1)
+
+loop-less : tie.Need-loop-less Inv-loop μ-loop
+loop-less c = omega (arith, c .before .before .before .before .before .loop-test .taken)
+
+loop-again : tie.Need-loop-again Inv-loop μ-loop
+loop-again c =
+    let log = c .before .before .before .before .before .before .before .before .args .log .now in
+    let limits = c .before .before .before .before .before .before .before .before .args .limits in
+    let at = c .before .before .before .before .before .before .loop in
+    let on : step-of limits (at .p) (entry-of (line-of (take 10 (drop (at .at) log)))) ≡ Step.Next (c .before .q .given .0 .0) =
+    ap (step-of limits (at .p)) (sym (c .before .before .before .before .line-at .ensures)) ∙ sym (c .before .before .before .take-line .ensures) ∙ c .before .q .given .1 in (
+      within-step limits (at .p) (at .inv .0) (entry-of (line-of (take 10 (drop (at .at) log)))) _ on,
+      omega (arith, at .inv .1),
+      sym (survey-on limits (at .p) (at .place) log (at .at) (c .before .before .before .before .before .loop-test .taken) _ on) ∙ at .inv .2,
+    )
+
+returns-2 : tie.Need-returns-2 Inv-loop μ-loop
+returns-2 c =
+    let log = c .before .before .before .args .log .now in
+    let limits = c .before .before .before .args .limits in
+    let at = c .before .loop in
+    sym (survey-ends limits (at .p) (at .place) log (at .at) (c .loop-test .left)) ∙ at .inv .2
+
+pub survey-spec : {M : Type 1} → statement M
+survey-spec =
+    tie.close
+    (tie.spec
+    Inv-loop
+    μ-loop
+    loop-holds
+    line-at-requires
+    take-line-requires
+    enum-known-q
+    enum-known-number
+    returns
+    add-at
+    add-place
+    loop-less
+    loop-again
+    returns-2)
