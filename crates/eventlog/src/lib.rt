@@ -123,12 +123,12 @@ fn declared_front(n: u32, events: &[u8]) -> usize
 pub fn is_sound(store: Store, events: &[u8], ends: &[u32]) -> bool
     ensures { λ r. ⌜ r ≡ sound (memory store (now (events .entry)) (now (ends .entry))) ⌝ }
 {
-    let n = store.activities;
+    let activities = store.activities;
     let traces = store.traces;
-    if n < 1 {
+    if activities < 1 {
         return false;
     }
-    if MOST_ACTIVITIES < n {
+    if MOST_ACTIVITIES < activities {
         return false;
     }
     if MOST_TRACES < traces {
@@ -145,7 +145,7 @@ pub fn is_sound(store: Store, events: &[u8], ends: &[u32]) -> bool
     if events.len() < last {
         return false;
     }
-    declared_front(n, &events[..last]) == last
+    declared_front(activities, &events[..last]) == last
 }
 
 fn refused(number: u8, detail: usize) -> AddAnswer
