@@ -8,13 +8,17 @@ use native.Mathlib.Numerals.{add-one}
 use native.Mathlib.Omega.{arith}
 use native.Mathlib.Nat.{suc-mul}
 use lib.ListN.{length, set, length-append}
-use lib.Seq.{sets}
+use lib.Seq.{sets, length-sets}
 use Rattle.declare.specs.Logic.{if_then_else_}
+use Rattle.declare.specs.Meaning.{fulfilled}
+use Rattle.eventlog.specs.Store.{Memory, sound, kept}
+use Rattle.eventlog.proofs.Laws.{kept-length, sound-facts}
 use Rattle.discovery.specs.declared.Constraint.{Constraint}
 use Rattle.discovery.specs.declared.Tally.{Tally}
 use Rattle.discovery.specs.Lists.{those, how-many, numbers-from, for-each}
-use Rattle.discovery.specs.Constraints.{pairs, survives, layout}
-use Rattle.discovery.specs.Passes.{Passes, is-listed}
+use Rattle.discovery.specs.Constraints.{pairs, trace-count, meets, fulfilments, survives, layout}
+use Rattle.discovery.specs.Passes.{Passes, is-listed, cell, row, grid}
+use Rattle.discovery.proofs.Pruning.{pruned-not-listed}
 use Rattle.discovery.proofs.Listing.{layout-length, for-each-append, how-many-at-most}
 
 -- ## Stores
@@ -65,12 +69,45 @@ for-each-snoc {B} f first more =
     ∙ for-each-append f (numbers-from first more) ((first + more) ∷ [])
     ∙ ap (λ (l : List B). for-each (numbers-from first more) f ++ l) (append-nil (f (first + more)))
 
+-- ## Tests over a sound memory's traces
+
+module _ (m : Memory) (h : sound m ≡ true) (threshold : ℕ) where
+  pub meets-kept : (number : ℕ) → meets threshold (m .store .traces) number ≡ meets threshold (trace-count (kept m)) number
+  meets-kept number = rw (kept-length m h)
+
+  pub fulfilments-few : (c : Constraint) → fulfilments (kept m) c ≤ 4095
+  unfolding fulfilments
+  fulfilments-few c =
+      omega (arith, how-many-at-most (fulfilled (c .template) (c .a) (c .b)) (kept m), kept-length m h, sound-facts m h .few-traces)
+
 -- ## Passing
 
 module _ (threshold : ℕ) (traces : List (List ℕ)) where
   pub passes-none : (t : Tally) (list : List ℕ) → Passes threshold traces [] t list t list
   unfolding layout
   passes-none t list = record { listed = omega arith; replayed = omega arith; written = refl }
+
+  module _ (c : Constraint) (t : Tally) (list : List ℕ) where
+    pub passes-pruned : survives threshold traces c ≡ false → Passes threshold traces (c ∷ []) t list t list
+    unfolding layout
+    passes-pruned pruned =
+        let not-listed = pruned-not-listed threshold traces c pruned in
+        record { listed = rw not-listed (omega arith); replayed = rw pruned (omega arith); written = rw not-listed }
+
+    pub passes-unlisted :
+        (t′ : Tally) → t′ .listed ≡ t .listed → t′ .replayed ≡ t .replayed + 1 → survives threshold traces c ≡ true →
+        is-listed threshold traces c ≡ false → Passes threshold traces (c ∷ []) t list t′ list
+    unfolding layout
+    passes-unlisted t′ same more kept not-listed =
+        record { listed = rw not-listed (omega arith); replayed = rw kept (omega arith); written = rw not-listed }
+
+    pub passes-listed :
+        (t′ : Tally) (list′ : List ℕ) → t′ .listed ≡ t .listed + 1 → t′ .replayed ≡ t .replayed + 1 → survives threshold traces c ≡ true →
+        is-listed threshold traces c ≡ true → list′ ≡ sets list (4 * t .listed) (c .template ∷ c .a ∷ c .b ∷ fulfilments traces c ∷ []) →
+        Passes threshold traces (c ∷ []) t list t′ list′
+    unfolding layout
+    passes-listed t′ list′ one-more more kept is-listed-too written =
+        record { listed = rw is-listed-too one-more; replayed = rw kept more; written = rw is-listed-too written }
 
   pub passes-append :
       (cs ds : List Constraint) (t t′ t″ : Tally) (list list′ list″ : List ℕ) →
@@ -87,19 +124,47 @@ module _ (threshold : ℕ) (traces : List (List ℕ)) where
             ∙ rw (p .written, place, those-append (is-listed threshold traces) cs ds, layout-append traces ours, sets-append (layout traces ours));
       }
 
-  module _ (f : ℕ → List Constraint) (first more : ℕ) (t t′ t″ : Tally) (list list′ list″ : List ℕ) where
-    -- the numbers from the first on, and one more
-    pub passes-next :
-        Passes threshold traces (for-each (numbers-from first more) f) t list t′ list′ →
-        Passes threshold traces (f (first + more)) t′ list′ t″ list″ →
-        Passes threshold traces (for-each (numbers-from first (more + 1)) f) t list t″ list″
-    passes-next p q =
-        rw (for-each-snoc f first more)
-        (passes-append (for-each (numbers-from first more) f) (f (first + more)) t t′ t″ list list′ list″ p q)
+  -- so many numbers from the first on, and the next one
+  pub passes-next :
+      (f : ℕ → List Constraint) (first more x more′ : ℕ) (t t′ t″ : Tally) (list list′ list″ : List ℕ) → first + more ≡ x → more + 1 ≡ more′ →
+      Passes threshold traces (for-each (numbers-from first more) f) t list t′ list′ → Passes threshold traces (f x) t′ list′ t″ list″ →
+      Passes threshold traces (for-each (numbers-from first more′) f) t list t″ list″
+  passes-next f first more x more′ t t′ t″ list list′ list″ e e′ p q =
+      rw (← e′, for-each-snoc f first more)
+      (passes-append (for-each (numbers-from first more) f) (f (first + more)) t t′ t″ list list′ list″ p (rw e q))
 
--- ## How many there can be
+  pub passes-length : (cs : List Constraint) (t t′ : Tally) (list list′ : List ℕ) → Passes threshold traces cs t list t′ list′ → length list′ ≡ length list
+  passes-length cs t t′ list list′ p = ap length (p .written) ∙ simp length-sets
 
-pub at-most : (f : ℕ → List Constraint) (k : ℕ) → ((x : ℕ) → length (f x) ≤ k) → (first more : ℕ) → length (for-each (numbers-from first more) f) ≤ more * k
+  -- no more are listed and replayed than there are
+  pub passes-within :
+      (cs : List Constraint) (k less most : ℕ) (t t′ : Tally) (list list′ : List ℕ) → length cs ≤ k → less + k ≤ most →
+      (t .listed ≤ less) × (t .replayed ≤ less) → Passes threshold traces cs t list t′ list′ → (t′ .listed ≤ most) × (t′ .replayed ≤ most)
+  passes-within cs k less most t t′ list list′ few room low p =
+      (omega (arith, p .listed, how-many-at-most (is-listed threshold traces) cs), omega (arith, p .replayed, how-many-at-most (survives threshold traces) cs))
+
+-- ## How many constraints there can be
+
+at-most :
+    (f : ℕ → List Constraint) (k : ℕ) → ((x : ℕ) → length (f x) ≤ k) → (first more : ℕ) →
+    length (for-each (numbers-from first more) f) ≤ more * k
 at-most f k h first zero = omega arith
 at-most f k h first (suc more) =
     rw (suc-mul more k, length-append (f first)) (omega (arith, h first, at-most f k h (suc first) more))
+
+cell-few : (t a b : ℕ) → length (cell t a b) ≤ 1
+cell-few t a b = go (pairs t a b)
+  where
+    go : (p : Bool) → length {A = Constraint} (if p then record { template = t; a = a; b = b } ∷ [] else []) ≤ 1
+    go true = omega arith
+    go false = omega arith
+
+pub cells-few : (t a more : ℕ) → length (for-each (numbers-from 0 more) (cell t a)) ≤ more
+cells-few t a more = omega (arith, at-most (cell t a) 1 (cell-few t a) 0 more)
+
+module _ (n : ℕ) (few : n ≤ 32) where
+  pub rows-few : (t more : ℕ) → length (for-each (numbers-from 0 more) (row n t)) ≤ more * 32
+  rows-few t more = at-most (row n t) 32 (λ a. omega (arith, cells-few t a n)) 0 more
+
+  pub grids-few : (more : ℕ) → length (for-each (numbers-from 1 more) (grid n)) ≤ more * 1024
+  grids-few more = at-most (grid n) 1024 (λ t. omega (arith, rows-few t n)) 1 more

@@ -31,6 +31,9 @@ grid n template = for-each (numbers-from 0 n) (row n template)
 abbrev pub is-listed : ℕ → List (List ℕ) → Constraint → Bool
 is-listed threshold traces c = meets threshold (trace-count traces) (fulfilments traces c)
 
+abbrev pub none-yet : Tally
+none-yet = record { listed = 0; replayed = 0 }
+
 -- passing over the constraints takes the tally and the slice to these: each listed one is written behind those before it
 pub record Passes (threshold : ℕ) (traces : List (List ℕ)) (cs : List Constraint) (t : Tally) (list : List ℕ) (t′ : Tally) (list′ : List ℕ) : Type 0 where
   pub listed : t′ .listed ≡ t .listed + how-many (is-listed threshold traces) cs

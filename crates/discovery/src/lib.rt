@@ -6,8 +6,8 @@ ghost use Prim.Native.Nat.{_+_, _*_, _≤_, _<_};
 ghost use lib.ListN.{set};
 ghost use lib.Seq.{sets};
 ghost use mathlib.Core.List.{[], _∷_};
-ghost use Rattle.discovery.specs.Constraints.{class-of, counts-for, support as support-of, meets as meets-test, pairs as pairs-test, survives};
-ghost use Rattle.discovery.specs.Passes.{Replays, Passes, cell, row, grid};
+ghost use Rattle.discovery.specs.Constraints.{class-of, counts-for, support as support-of, meets as meets-test, pairs as pairs-test, survives, constraints};
+ghost use Rattle.discovery.specs.Passes.{Replays, Passes, cell, row, grid, none-yet};
 use declare::Verdict;
 use eventlog::Refusal;
 use eventlog::Store;
@@ -180,4 +180,133 @@ fn replay(
         fulfilled,
         replayed: replayed + 1,
     }
+}
+
+// One constraint: what pruning drops is not replayed, and what is replayed is written where its count meets the threshold.
+fn consider(
+    store: Store,
+    events: &[u8],
+    ends: &[u32],
+    threshold: u32,
+    list: &mut [u16],
+    tally: Tally,
+    c: Constraint,
+) -> Tally
+    requires { ⌜ sound (memory store (now events) (now ends)) ≡ true ⌝ }
+    requires { ⌜ (tally .listed ≤ 40000) × (tally .replayed ≤ 40000) ⌝ }
+    ensures { λ r. ⌜ Passes threshold (kept (memory store (now (events .entry)) (now (ends .entry)))) (c ∷ []) tally (now (list .entry)) r (now (list .exit)) ⌝ }
+{
+    let all = store.traces;
+    let count = support(store, events, ends, c);
+    if !meets(threshold, all, count) {
+        return tally;
+    }
+    let outcome = replay(store, events, ends, threshold, c, tally.replayed);
+    let fulfilled = outcome.fulfilled;
+    let replayed = outcome.replayed;
+    if !meets(threshold, all, fulfilled) {
+        return Tally {
+            listed: tally.listed,
+            replayed,
+        };
+    }
+    write(list, tally.listed, c, fulfilled as u16);
+    Tally {
+        listed: tally.listed + 1,
+        replayed,
+    }
+}
+
+fn pass_cell(
+    store: Store,
+    events: &[u8],
+    ends: &[u32],
+    threshold: u32,
+    list: &mut [u16],
+    tally: Tally,
+    template: u8,
+    a: u8,
+    b: u8,
+) -> Tally
+    requires { ⌜ sound (memory store (now events) (now ends)) ≡ true ⌝ }
+    requires { ⌜ (tally .listed ≤ 40000) × (tally .replayed ≤ 40000) ⌝ }
+    ensures { λ r. ⌜ Passes threshold (kept (memory store (now (events .entry)) (now (ends .entry)))) (cell template a b) tally (now (list .entry)) r (now (list .exit)) ⌝ }
+{
+    if pairs(template, a, b) {
+        consider(
+            store,
+            events,
+            ends,
+            threshold,
+            list,
+            tally,
+            Constraint { template, a, b },
+        )
+    } else {
+        tally
+    }
+}
+
+fn pass_row(
+    store: Store,
+    events: &[u8],
+    ends: &[u32],
+    threshold: u32,
+    list: &mut [u16],
+    tally: Tally,
+    template: u8,
+    a: u8,
+) -> Tally
+    requires { ⌜ sound (memory store (now events) (now ends)) ≡ true ⌝ }
+    requires { ⌜ (tally .listed ≤ 39968) × (tally .replayed ≤ 39968) ⌝ }
+    ensures { λ r. ⌜ Passes threshold (kept (memory store (now (events .entry)) (now (ends .entry)))) (row (store .activities) template a) tally (now (list .entry)) r (now (list .exit)) ⌝ }
+{
+    let n = store.activities as u8;
+    let mut found = tally;
+    let mut b: u8 = 0;
+    while b < n {
+        found = pass_cell(store, events, ends, threshold, list, found, template, a, b);
+        b += 1;
+    }
+    found
+}
+
+fn pass_grid(
+    store: Store,
+    events: &[u8],
+    ends: &[u32],
+    threshold: u32,
+    list: &mut [u16],
+    tally: Tally,
+    template: u8,
+) -> Tally
+    requires { ⌜ sound (memory store (now events) (now ends)) ≡ true ⌝ }
+    requires { ⌜ (tally .listed ≤ 38944) × (tally .replayed ≤ 38944) ⌝ }
+    ensures { λ r. ⌜ Passes threshold (kept (memory store (now (events .entry)) (now (ends .entry)))) (grid (store .activities) template) tally (now (list .entry)) r (now (list .exit)) ⌝ }
+{
+    let n = store.activities as u8;
+    let mut found = tally;
+    let mut a: u8 = 0;
+    while a < n {
+        found = pass_row(store, events, ends, threshold, list, found, template, a);
+        a += 1;
+    }
+    found
+}
+
+// All constraints, by template, then a, then b: how many are listed and replayed, the list written as far as the slice goes.
+fn pass_all(store: Store, events: &[u8], ends: &[u32], threshold: u32, list: &mut [u16]) -> Tally
+    requires { ⌜ sound (memory store (now events) (now ends)) ≡ true ⌝ }
+    ensures { λ r. ⌜ Passes threshold (kept (memory store (now (events .entry)) (now (ends .entry)))) (constraints (store .activities)) none-yet (now (list .entry)) r (now (list .exit)) ⌝ }
+{
+    let mut found = Tally {
+        listed: 0,
+        replayed: 0,
+    };
+    let mut template: u8 = 1;
+    while template <= 24 {
+        found = pass_grid(store, events, ends, threshold, list, found, template);
+        template += 1;
+    }
+    found
 }
