@@ -4,7 +4,7 @@ use Prim.Native.Nat.{ℕ, suc, _+_, _-_, _≤_, _<_}
 use native.Mathlib.Omega.{arith}
 use mathlib.Core.Path.{_≡_, refl, sym, ap, _∙_}
 use mathlib.Core.Bool.{Bool, true, false}
-use mathlib.Core.List.{List, [], _∷_}
+use mathlib.Core.List.{List, [], _∷_, _++_}
 use borrow.Author.Tests.{ltb-false, eqb-false, not-false}
 use lib.Dec.{eqb, ltb}
 use lib.ListN.{length, getD}
@@ -12,10 +12,11 @@ use Rattle.declare.specs.Logic.{_and_, _or_, if_then_else_}
 use Rattle.eventlog.specs.declared.Store.{Store}
 use Rattle.eventlog.specs.declared.Refusal.{Refusal}
 use Rattle.eventlog.specs.declared.AddAnswer.{AddAnswer}
+use Rattle.eventlog.specs.declared.AddResult.{AddResult}
 use Rattle.eventlog.specs.Checks.{Check, gives, refused, reply, when-passed}
-use Rattle.eventlog.specs.Store.{most-traces, Memory, memory, sound, all-below}
-use Rattle.eventlog.specs.Calls.{Undeclared, Answers, Adds, with-trace, checks-of-add, add-said}
-use Rattle.eventlog.proofs.Laws.{Addable, sound-facts}
+use Rattle.eventlog.specs.Store.{most-traces, Memory, memory, kept, sound, all-below}
+use Rattle.eventlog.specs.Calls.{Undeclared, Answers, Adds, with-trace, checks-of-add, add-said, room}
+use Rattle.eventlog.proofs.Laws.{Addable, sound-facts, sound-added, kept-added, room-added}
 
 -- ## Replies
 
@@ -163,3 +164,29 @@ module _ (m : Memory) (trace : List ℕ) (answer : AddAnswer) (answers : Answers
             (given-new (checks-of-add (answers .place) m trace) [] [] (with-trace m trace) m
             (sym (answers .says) ∙ ap add-said e));
       }
+
+-- ## What add's contract gives to its callers
+
+-- sound, with the same room, keeping the old traces and then the new one
+pub record Grown (m : Memory) (trace : List ℕ) (after : Memory) : Type 0 where
+  pub still-sound : sound after ≡ true
+  pub same-room : room after ≡ room m
+  pub keeps : kept after ≡ kept m ++ (trace ∷ [])
+
+module _ (m : Memory) (trace : List ℕ) (result : AddResult) (events ends : List ℕ) (adds : Adds m trace result events ends) where
+  pub after-added : add-said (result .answer) ≡ gives [] → Grown m trace (memory (result .store) events ends)
+  after-added e =
+      let given = sym (adds .says) ∙ e in
+      let a = accepted (adds .place) m trace given in
+      rw (adds .leaves ∙ given-new (checks-of-add (adds .place) m trace) [] [] (with-trace m trace) m given)
+      (record {
+        still-sound = sound-added m trace (a .0) (a .1);
+        same-room = room-added m trace;
+        keeps = kept-added m trace (a .0) (a .1);
+      })
+
+  pub after-refused :
+      (number detail : ℕ) → add-said (result .answer) ≡ refused number detail → memory (result .store) events ends ≡ m
+  after-refused number detail e =
+      adds .leaves
+      ∙ refused-old (checks-of-add (adds .place) m trace) [] number detail (with-trace m trace) m (sym (adds .says) ∙ e)

@@ -196,7 +196,9 @@ fn copy_in(events: &mut [u8], at: usize, trace: &[u8])
 // Appends the events and the end of a trace that add accepts.
 fn append(store: Store, events: &mut [u8], ends: &mut [u32], trace: &[u8]) -> Store
     requires { ⌜ Answers (memory store (now events) (now ends)) (now trace) AddAnswer.Added ⌝ }
-    ensures { λ r. ⌜ memory r (now (events .exit)) (now (ends .exit)) ≡ with-trace (memory store (now (events .entry)) (now (ends .entry))) (now (trace .entry)) ⌝ }
+    ensures { λ r.
+        ⌜ memory r (now (events .exit)) (now (ends .exit)) ≡
+        with-trace (memory store (now (events .entry)) (now (ends .entry))) (now (trace .entry)) ⌝ }
 {
     let last = last_end(store, ends) as usize;
     copy_in(events, last, trace);
@@ -211,7 +213,9 @@ fn append(store: Store, events: &mut [u8], ends: &mut [u32], trace: &[u8]) -> St
 
 // Appends a trace. A refused call changes no byte.
 pub fn add(store: Store, events: &mut [u8], ends: &mut [u32], trace: &[u8]) -> AddResult
-    ensures { λ r. ⌜ Adds (memory store (now (events .entry)) (now (ends .entry))) (now (trace .entry)) r (now (events .exit)) (now (ends .exit)) ⌝ }
+    ensures { λ r.
+        ⌜ Adds (memory store (now (events .entry)) (now (ends .entry))) (now (trace .entry))
+        r (now (events .exit)) (now (ends .exit)) ⌝ }
 {
     let answer = add_answer(store, events, ends, trace);
     match answer {

@@ -71,7 +71,9 @@ returns c =
     record {
       place = place .0;
       free = place .1;
-      says = simp (c .refused .ensures, ← c .before .before .is-sound .ensures, not-true (c .before .before .is-sound .result) (c .before .if1 .taken));
+      says =
+          let tested = c .before .before .is-sound in
+          simp (c .refused .ensures, ← tested .ensures, not-true (tested .result) (c .before .if1 .taken));
     }
 
 declared-front-requires : tie.Need-declared-front-requires
@@ -155,7 +157,9 @@ returns-7 : tie.Need-returns-7
 unfolding last-end
 returns-7 c =
     declared-answers _ _ _ (declared-yes (c .before .before .before .before .before))
-    (sym (not-full (c .before .before) ∙ simp (← c .before .last-end .ensures, le-ltb _ _ (room-enough _ _ _ (sub-if6 (c .before)) (c .if6 .left)))))
+    (sym
+    (not-full (c .before .before)
+    ∙ simp (← c .before .last-end .ensures, le-ltb _ _ (room-enough _ _ _ (sub-if6 (c .before)) (c .if6 .left)))))
 
 pub add-answer-spec : {M : Type 1} → statement M
 add-answer-spec =

@@ -15,13 +15,16 @@ abbrev given : tie.Start → Memory
 given c = memory (c .args .store) (c .args .events .now) (c .args .ends .now)
 
 -- the bounds of a trace that is accepted, with the last end as it was read
-pub record Bounds (m : Memory) (trace : List ℕ) (last : ℕ) : Type 0 where
+record Bounds (m : Memory) (trace : List ℕ) (last : ℕ) : Type 0 where
   pub fits : last + length trace ≤ length (m .events)
   pub small : last + length trace < 2 ^ 32
   pub few : m .store .traces < most-traces
   pub has-end : m .store .traces < length (m .ends)
 
-bounds : (c : tie.After-last-end) → Bounds (given (c .before .before .before .before .before)) (c .before .before .before .before .before .args .trace .now) (c .last-end .result)
+bounds :
+    (c : tie.After-last-end) →
+    let start = c .before .before .before .before .before in
+    Bounds (given start) (start .args .trace .now) (c .last-end .result)
 unfolding last-end
 bounds c =
     let start = c .before .before .before .before .before in

@@ -53,11 +53,15 @@ slice-aggregate-ends-rise c = sym (length-take-le _ _ (c .before .if4 .left))
 ends-rise-requires : tie.Need-ends-rise-requires
 ends-rise-requires c κs = search needs
 
--- what is left to test once the record and the kept ends are
 abbrev given : tie.Else4 → Memory
-given c = let args = c .before .before .before .before .before .before .args in memory (args .store) (args .events .now) (args .ends .now)
+given c =
+    let args = c .before .before .before .before .before .before .args in
+    memory (args .store) (args .events .now) (args .ends .now)
 
-tested : (c : tie.After-ends-rise) → sound (given (c .before .before)) ≡ c .ends-rise .result and events-sound (given (c .before .before))
+-- what is left to test once the record is
+tested :
+    (c : tie.After-ends-rise) →
+    sound (given (c .before .before)) ≡ c .ends-rise .result and events-sound (given (c .before .before))
 unfolding sound
 tested c =
     simp (
@@ -71,6 +75,7 @@ tested c =
 returns-5 : tie.Need-returns-5
 returns-5 c = sym (tested (c .before) ∙ rw (not-true (c .before .ends-rise .result) (c .if5 .taken)))
 
+-- and once the ends are
 rising-ends : (c : tie.Else5) → sound (given (c .before .before .before)) ≡ events-sound (given (c .before .before .before))
 rising-ends c = tested (c .before) ∙ rw (not-false (c .before .ends-rise .result) (c .if5 .left))
 
