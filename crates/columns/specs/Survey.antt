@@ -57,3 +57,7 @@ survey-of limits p place (line ∷ rest) =
       | Step.Next q ↦ survey-of limits q (place + 1) rest
       | Step.Fault number ↦ ReadAnswer.Refused (record { number = number; detail = place })
     ]
+
+abbrev pub accepted : ReadAnswer → Type 0
+accepted (ReadAnswer.Added traces) = Unit {0}
+accepted (ReadAnswer.Refused refusal) = ⊥

@@ -1,0 +1,350 @@
+-- The way over the lines with numbers comes to the checks and the traces of the definitions.
+-- Assumes nothing.
+use Prim.Native.Nat.{ℕ, zero, suc, _+_, _-_, _*_, _≤_, _<_}
+use mathlib.Core.Path.{_≡_, refl, sym, ap, _∙_}
+use mathlib.Core.Bool.{Bool, true, false, not}
+use mathlib.Core.List.{List, [], _∷_, _++_}
+use mathlib.Core.Option.{Option, none, some}
+use native.Mathlib.Omega.{arith}
+use native.Mathlib.Nat.{add-zero}
+use lib.Dec.{eqb, leb, ltb}
+use lib.ListN.{length, getD, take, drop, length-append}
+use lib.Seq.{slice}
+use borrow.Author.Tests.{lt-ltb, le-ltb, le-leb, lt-leb, eq-eqb, ne-eqb, ltb-true, ltb-false, leb-true, leb-false, eqb-true, eqb-false}
+use Rattle.declare.specs.Logic.{_and_, _or_, if_then_else_}
+use Rattle.eventlog.specs.Checks.{Check, _refuses_with_, Reply, gives, refused, reply}
+use Rattle.eventlog.specs.Store.{most-traces, longest-trace, total, all-below}
+use Rattle.eventlog.specs.Calls.{Room, full}
+use Rattle.columns.specs.declared.Entry.{Entry}
+use Rattle.columns.specs.declared.Limits.{Limits}
+use Rattle.columns.specs.declared.Progress.{Progress}
+use Rattle.columns.specs.declared.Step.{Step}
+use Rattle.columns.specs.declared.ReadAnswer.{ReadAnswer}
+use Rattle.columns.specs.Field.{line-feed, well-formed, value}
+use Rattle.columns.specs.Log.{Line, line-of, lines-within, lines, Before, Onto, nothing-read, with-line, last?, length-of, extend-last, number-falls, same-trace, line-checks, log-checks-from, spelled-from}
+use Rattle.columns.specs.Survey.{entry-of, Within, full-of, unplaced-of, fault-of, next-of, step-of, survey-of, accepted}
+use Rattle.columns.specs.Calls.{read-said}
+use Rattle.columns.proofs.Bools.{either, clash}
+use Rattle.columns.proofs.Passes.{Passed, passed, within-next}
+use Rattle.columns.proofs.Traces.{Each, total-last, each-last, each-front}
+use Rattle.eventlog.proofs.Laws.{all-below-append, and-left, and-right}
+
+-- ## What stands before a line, in numbers
+
+abbrev pub limits-of : Onto → Limits
+limits-of o = record { activities = o .activities; traces = o .count; events = o .room .events; ends = o .room .ends }
+
+-- before the first line
+abbrev pub at-start : Onto → Progress
+at-start o = record { number = 0; left = 0; added = 0; last = o .last }
+
+-- after some lines, the last of which is `line`, that spell `traces` and then `trace`
+abbrev pub going : Line → List (List ℕ) → List ℕ → Before
+going line traces trace = record { line = some line; traces = traces ++ (trace ∷ []) }
+
+abbrev pub at-going : Onto → Line → List (List ℕ) → List ℕ → Progress
+at-going o line traces trace =
+    record {
+      number = line .number;
+      left = longest-trace - length trace;
+      added = length (traces ++ (trace ∷ []));
+      last = o .last + total (traces ++ (trace ∷ []));
+    }
+
+last-of : (traces : List (List ℕ)) (trace : List ℕ) → last? (traces ++ (trace ∷ [])) ≡ some trace
+last-of [] trace = refl
+last-of (t ∷ []) trace = refl
+last-of (t ∷ (u ∷ traces)) trace = last-of (u ∷ traces) trace
+
+extended : (traces : List (List ℕ)) (trace : List ℕ) (x : ℕ) → extend-last (traces ++ (trace ∷ [])) x ≡ traces ++ ((trace ++ (x ∷ [])) ∷ [])
+extended [] trace x = refl
+extended (t ∷ []) trace x = refl
+extended (t ∷ (u ∷ traces)) trace x = ap (λ (l : List (List ℕ)). t ∷ l) (extended (u ∷ traces) trace x)
+
+-- ## The checks of one line
+
+-- the refusal of a line, 0 where there is none
+abbrev refusal : Limits → Progress → Line → ℕ
+refusal limits p line = if line .laid-out then fault-of limits p (line .number) (line .activity) else 4
+
+abbrev decided : ℕ → ℕ → Reply → Reply
+decided number place on = if eqb number 0 then on else refused number place
+
+-- the order of the checks, as such
+in-order :
+    (laid falls undeclared same long full no-room : Bool) (place : ℕ) (more : List Check) (values : List ℕ) →
+    reply
+    ((not laid refuses 4 with place) ∷ (falls refuses 5 with place) ∷ (undeclared refuses 6 with place) ∷
+    ((same and long) refuses 7 with place) ∷ ((not same and full) refuses 8 with place) ∷ (no-room refuses 9 with place) ∷ more) values ≡
+    decided
+    (if laid then
+    if falls then 5 else if undeclared then 6
+    else if same then (if long then 7 else if no-room then 9 else 0)
+    else if full then 8 else if no-room then 9 else 0
+    else 4) place (reply more values)
+in-order false falls undeclared same long full no-room place more values = refl
+in-order true true undeclared same long full no-room place more values = refl
+in-order true false true same long full no-room place more values = refl
+in-order true false false true true full no-room place more values = refl
+in-order true false false true false full true place more values = refl
+in-order true false false true false full false place more values = refl
+in-order true false false false long true no-room place more values = refl
+in-order true false false false long false true place more values = refl
+in-order true false false false long false false place more values = refl
+
+no-room-same : (room last : ℕ) → ltb room (last + 1) ≡ leb room last
+no-room-same room last =
+    either (leb room last)
+    (λ q. let h = leb-true room last q in lt-ltb room (last + 1) (omega arith) ∙ sym q)
+    (λ q. let h = leb-false room last q in le-ltb room (last + 1) (omega arith) ∙ sym q)
+
+module _ (o : Onto) (place : ℕ) (line : Line) (more : List Check) (values : List ℕ) (numbered : line .laid-out ≡ true → 1 ≤ line .number) where
+  start-line :
+      reply (line-checks o nothing-read place line ++ more) values ≡
+      decided (refusal (limits-of o) (at-start o) line) place (reply more values)
+  start-line =
+      in-order (line .laid-out) false (leb (o .activities) (line .activity)) false false (full (o .room) (o .count + 0))
+      (ltb (o .room .events) (o .last + 0 + 1)) place more values
+      ∙ ap (λ (k : ℕ). decided k place (reply more values)) same
+    where
+      same :
+          (if line .laid-out then
+          if leb (o .activities) (line .activity) then 6
+          else if full (o .room) (o .count + 0) then 8 else if ltb (o .room .events) (o .last + 0 + 1) then 9 else 0
+          else 4) ≡ refusal (limits-of o) (at-start o) line
+      same =
+          either (line .laid-out)
+          (λ q.
+          let some = numbered q in
+          rw (
+            q,
+            le-ltb (line .number) 0 (omega arith),
+            ne-eqb (line .number) 0 (λ z. omega arith),
+            no-room-same (o .room .events) (o .last + 0),
+            add-zero (o .last),
+          ))
+          (λ q. rw q)
+
+  going-line :
+      (before : Line) (traces : List (List ℕ)) (trace : List ℕ) → length trace ≤ longest-trace →
+      reply (line-checks o (going before traces trace) place line ++ more) values ≡
+      decided (refusal (limits-of o) (at-going o before traces trace) line) place (reply more values)
+  going-line before traces trace h =
+      let falls = ltb (line .number) (before .number) in
+      let same = eqb (line .number) (before .number) in
+      let long = eqb (longest-trace - length trace) 0 in
+      let undeclared = leb (o .activities) (line .activity) in
+      let count = length (traces ++ (trace ∷ [])) in
+      let last = o .last + total (traces ++ (trace ∷ [])) in
+      let as-long : eqb (length-of (last? (traces ++ (trace ∷ [])))) longest-trace ≡ long =
+      ap (λ (t : Option (List ℕ)). eqb (length-of t) longest-trace) (last-of traces trace)
+      ∙ either (eqb (longest-trace - length trace) 0)
+      (λ q. eq-eqb (length trace) longest-trace (omega (arith, eqb-true (longest-trace - length trace) 0 q)) ∙ sym q)
+      (λ q. let apart = eqb-false (longest-trace - length trace) 0 q in ne-eqb (length trace) longest-trace (λ z. omega arith) ∙ sym q) in
+      rw (as-long, no-room-same (o .room .events) last)
+      (in-order (line .laid-out) falls undeclared same long (full (o .room) (o .count + count)) (leb (o .room .events) last) place more values)
+
+-- ## One line on
+
+-- What stands before the next line: the line, and the traces with its event, in numbers too.
+pub record Goes-on (o : Onto) (line : Line) (before : Before) (p : Progress) : Type 0 where
+  pub traces : List (List ℕ)
+  pub trace : List ℕ
+  pub read : with-line before line ≡ going line traces trace
+  pub counted : next-of p (line .number) ≡ at-going o line traces trace
+  pub each : Each (o .activities) (traces ++ (trace ∷ []))
+
+declared-one : (n x : ℕ) → x < n → all-below n (x ∷ []) ≡ true
+declared-one n x h = rw (lt-ltb x n h)
+
+module _ (o : Onto) (line : Line) where
+  pub start-on :
+      1 ≤ line .number → line .activity < o .activities → Goes-on o line nothing-read (at-start o)
+  start-on positive declared =
+      record {
+        traces = [];
+        trace = line .activity ∷ [];
+        read = refl;
+        counted = rw (ne-eqb (line .number) 0 (λ z. omega arith));
+        each = (declared-one (o .activities) (line .activity) declared, omega arith, tt);
+      }
+
+  module _ (before : Line) (traces : List (List ℕ)) (trace : List ℕ) (e : Each (o .activities) (traces ++ (trace ∷ []))) where
+    same-on :
+        line .number ≡ before .number → 1 ≤ longest-trace - length trace → line .activity < o .activities →
+        Goes-on o line (going before traces trace) (at-going o before traces trace)
+    same-on same room declared =
+        let f = each-front (o .activities) traces trace e in
+        let x = line .activity in
+        let one-more : length (trace ++ (x ∷ [])) ≡ length trace + 1 = length-append trace (x ∷ []) in
+        let left : longest-trace - length trace - 1 ≡ longest-trace - length (trace ++ (x ∷ [])) = omega arith in
+        let added : length (traces ++ (trace ∷ [])) ≡ length (traces ++ ((trace ++ (x ∷ [])) ∷ [])) =
+        length-append traces (trace ∷ []) ∙ sym (length-append traces ((trace ++ (x ∷ [])) ∷ [])) in
+        let last : o .last + total (traces ++ (trace ∷ [])) + 1 ≡ o .last + total (traces ++ ((trace ++ (x ∷ [])) ∷ [])) =
+        omega (arith, total-last traces trace, total-last traces (trace ++ (x ∷ []))) in
+        record {
+          traces = traces;
+          trace = trace ++ (x ∷ []);
+          read = rw (eq-eqb (line .number) (before .number) same, extended traces trace x);
+          counted = rw (eq-eqb (line .number) (before .number) same, left, added, last);
+          each =
+              each-last (o .activities) traces (trace ++ (x ∷ [])) (f .0)
+              (all-below-append (o .activities) trace (x ∷ []) (f .1) (declared-one (o .activities) x declared)) (omega arith);
+        }
+
+    other-on :
+        (line .number ≡ before .number → ⊥) → line .activity < o .activities →
+        Goes-on o line (going before traces trace) (at-going o before traces trace)
+    other-on other declared =
+        let x = line .activity in
+        let added : length (traces ++ (trace ∷ [])) + 1 ≡ length ((traces ++ (trace ∷ [])) ++ ((x ∷ []) ∷ [])) =
+        sym (length-append (traces ++ (trace ∷ [])) ((x ∷ []) ∷ [])) in
+        let last : o .last + total (traces ++ (trace ∷ [])) + 1 ≡ o .last + total ((traces ++ (trace ∷ [])) ++ ((x ∷ []) ∷ [])) =
+        omega (arith, total-last (traces ++ (trace ∷ [])) (x ∷ [])) in
+        record {
+          traces = traces ++ (trace ∷ []);
+          trace = x ∷ [];
+          read = rw (ne-eqb (line .number) (before .number) other);
+          counted = rw (ne-eqb (line .number) (before .number) other, added, last);
+          each = each-last (o .activities) (traces ++ (trace ∷ [])) (x ∷ []) e (declared-one (o .activities) x declared) (omega arith);
+        }
+
+    pub going-on :
+        Passed (limits-of o) (at-going o before traces trace) (line .number) (line .activity) →
+        Goes-on o line (going before traces trace) (at-going o before traces trace)
+    going-on h =
+        either (eqb (line .number) (before .number))
+        (λ q. let same = eqb-true (line .number) (before .number) q in same-on same (h .goes-on same) (h .declared))
+        (λ q. other-on (eqb-false (line .number) (before .number) q) (h .declared))
+
+-- ## The whole log
+
+-- a laid-out line's number is at least 1
+abbrev pub Numbered : List Line → Type 0
+Numbered [] = Unit
+Numbered (line ∷ rest) = (line .laid-out ≡ true → 1 ≤ line .number) × Numbered rest
+
+one-line :
+    (limits : Limits) (p : Progress) (place : ℕ) (line : Line) (rest : List Line) (on : Reply) →
+    (line .laid-out ≡ true → fault-of limits p (line .number) (line .activity) ≡ 0 →
+    on ≡ read-said (survey-of limits (next-of p (line .number)) (place + 1) rest)) →
+    decided (refusal limits p line) place on ≡ read-said (survey-of limits p place (line ∷ rest))
+one-line limits p place line rest on f =
+    let fault = fault-of limits p (line .number) (line .activity) in
+    either (line .laid-out)
+    (λ q.
+    either (eqb fault 0)
+    (λ r. rw (q, r, survey-of) (f q (eqb-true fault 0 r)))
+    (λ r. rw (q, r, survey-of)))
+    (λ q. rw (q, survey-of))
+
+abbrev answered : Onto → Before → ℕ → List Line → Reply
+answered o before place rest = reply (log-checks-from o before place rest) (length (spelled-from before rest) ∷ [])
+
+agree-going :
+    (o : Onto) (rest : List Line) (before : Line) (traces : List (List ℕ)) (trace : List ℕ) (place : ℕ) →
+    Each (o .activities) (traces ++ (trace ∷ [])) → Within (limits-of o) (at-going o before traces trace) → Numbered rest →
+    answered o (going before traces trace) place rest ≡ read-said (survey-of (limits-of o) (at-going o before traces trace) place rest)
+agree-going o [] before traces trace place e w n = refl
+agree-going o (line ∷ rest) before traces trace place e w n =
+    let p = at-going o before traces trace in
+    let after = with-line (going before traces trace) line in
+    going-line o place line (log-checks-from o after (place + 1) rest) (length (spelled-from after rest) ∷ []) (n .0) before traces trace
+    (each-front (o .activities) traces trace e .2)
+    ∙ one-line (limits-of o) p place line rest (answered o after (place + 1) rest)
+    (λ laid fault.
+    let h = passed (limits-of o) p w (line .number) (line .activity) fault in
+    let g = going-on o line before traces trace e h in
+    let w′ = within-next (limits-of o) p w (line .number) (line .activity) h in
+    rw (g .read, g .counted)
+    (agree-going o rest line (g .traces) (g .trace) (place + 1) (g .each) (rw (g .counted) at w′) (n .1)))
+
+-- the code's answer is that of the checks
+pub agree :
+    (o : Onto) (rest : List Line) → Within (limits-of o) (at-start o) → Numbered rest →
+    answered o nothing-read 1 rest ≡ read-said (survey-of (limits-of o) (at-start o) 1 rest)
+agree o [] w n = refl
+agree o (line ∷ rest) w n =
+    let p = at-start o in
+    let after = with-line nothing-read line in
+    start-line o 1 line (log-checks-from o after 2 rest) (length (spelled-from after rest) ∷ []) (n .0)
+    ∙ one-line (limits-of o) p 1 line rest (answered o after 2 rest)
+    (λ laid fault.
+    let h = passed (limits-of o) p w (line .number) (line .activity) fault in
+    let g = start-on o line (n .0 laid) (h .declared) in
+    let w′ = within-next (limits-of o) p w (line .number) (line .activity) h in
+    rw (g .read, g .counted)
+    (agree-going o rest line (g .traces) (g .trace) 2 (g .each) (rw (g .counted) at w′) (n .1)))
+
+numbered-line : (bytes : List ℕ) → line-of bytes .laid-out ≡ true → 1 ≤ line-of bytes .number
+numbered-line bytes e =
+    let number = slice 0 6 bytes in
+    let activity = slice 6 9 bytes in
+    leb-true 1 (value number)
+    (and-left (leb 1 (value number)) (well-formed activity and eqb (getD bytes 9 0) line-feed)
+    (and-right (well-formed number) (leb 1 (value number) and well-formed activity and eqb (getD bytes 9 0) line-feed)
+    (and-right (eqb (length bytes) 10) (well-formed number and leb 1 (value number) and well-formed activity and eqb (getD bytes 9 0) line-feed) e)))
+
+numbered-within : (most : ℕ) (log : List ℕ) → Numbered (lines-within most log)
+numbered-within zero log = tt
+numbered-within (suc most) [] = tt
+numbered-within (suc most) (b ∷ bs) = (numbered-line (take 10 (b ∷ bs)), numbered-within most (drop 10 (b ∷ bs)))
+
+pub numbered-lines : (log : List ℕ) → Numbered (lines log)
+unfolding lines
+numbered-lines log = numbered-within (length log) log
+
+-- ## What an accepted log spells can be added
+
+pub record Line-passes (limits : Limits) (p : Progress) (place : ℕ) (line : Line) (rest : List Line) : Type 0 where
+  pub laid : line .laid-out ≡ true
+  pub no-fault : fault-of limits p (line .number) (line .activity) ≡ 0
+  pub on : accepted (survey-of limits (next-of p (line .number)) (place + 1) rest)
+
+pub line-passes :
+    (limits : Limits) (p : Progress) (place : ℕ) (line : Line) (rest : List Line) →
+    accepted (survey-of limits p place (line ∷ rest)) → Line-passes limits p place line rest
+line-passes limits p place line rest a =
+    let fault = fault-of limits p (line .number) (line .activity) in
+    either (line .laid-out)
+    (λ q.
+    either (eqb fault 0)
+    (λ r. record { laid = q; no-fault = eqb-true fault 0 r; on = rw (q, r, survey-of) at a })
+    (λ r. absurd (rw (q, r, survey-of) at a)))
+    (λ q. absurd (rw (q, survey-of) at a))
+
+pub record Fitted (o : Onto) (traces : List (List ℕ)) : Type 0 where
+  pub each : Each (o .activities) traces
+  pub few : o .count + length traces ≤ most-traces
+  pub has-ends : o .count + length traces ≤ o .room .ends
+  pub fits : o .last + total traces ≤ o .room .events
+
+fitted-going :
+    (o : Onto) (rest : List Line) (before : Line) (traces : List (List ℕ)) (trace : List ℕ) (place : ℕ) →
+    Each (o .activities) (traces ++ (trace ∷ [])) → Within (limits-of o) (at-going o before traces trace) →
+    accepted (survey-of (limits-of o) (at-going o before traces trace) place rest) →
+    Fitted o (spelled-from (going before traces trace) rest)
+fitted-going o [] before traces trace place e w a =
+    record { each = e; few = w .few; has-ends = w .has-ends; fits = w .has-events }
+fitted-going o (line ∷ rest) before traces trace place e w a =
+    let p = at-going o before traces trace in
+    let l = line-passes (limits-of o) p place line rest a in
+    let h = passed (limits-of o) p w (line .number) (line .activity) (l .no-fault) in
+    let g = going-on o line before traces trace e h in
+    let w′ = within-next (limits-of o) p w (line .number) (line .activity) h in
+    rw (g .read)
+    (fitted-going o rest line (g .traces) (g .trace) (place + 1) (g .each) (rw (g .counted) at w′) (rw (g .counted) at (l .on)))
+
+pub fitted :
+    (o : Onto) (rest : List Line) → Within (limits-of o) (at-start o) → Numbered rest →
+    accepted (survey-of (limits-of o) (at-start o) 1 rest) → Fitted o (spelled-from nothing-read rest)
+fitted o [] w n a =
+    record { each = tt; few = w .few; has-ends = w .has-ends; fits = omega (arith, w .has-events) }
+fitted o (line ∷ rest) w n a =
+    let p = at-start o in
+    let l = line-passes (limits-of o) p 1 line rest a in
+    let h = passed (limits-of o) p w (line .number) (line .activity) (l .no-fault) in
+    let g = start-on o line (n .0 (l .laid)) (h .declared) in
+    let w′ = within-next (limits-of o) p w (line .number) (line .activity) h in
+    rw (g .read)
+    (fitted-going o rest line (g .traces) (g .trace) 2 (g .each) (rw (g .counted) at w′) (rw (g .counted) at (l .on)))
