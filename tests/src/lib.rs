@@ -5,6 +5,7 @@ pub mod capi;
 pub mod gen;
 pub mod memories;
 pub mod oracle;
+pub mod plain;
 pub mod play;
 pub mod program;
 pub mod rng;

@@ -1,0 +1,181 @@
+//! `find` through the archive beside two plain Rust finders: the same logs, one process.
+//!
+//!     cargo run --release --bin bench                   times and their ratios
+//!     cargo run --release --bin bench -- instructions   instructions for each event replayed, counted by valgrind
+
+use budgieleaf_tests::calls::{Calls, FindAnswer, Record};
+use budgieleaf_tests::capi::Archive;
+use budgieleaf_tests::plain::{find, Automaton, Summary};
+use budgieleaf_tests::rng::Rng;
+use std::hint::black_box;
+use std::process::Command;
+
+struct Log {
+    name: &'static str,
+    record: Record,
+    events: Vec<u8>,
+    ends: Vec<u32>,
+    threshold: u32,
+}
+
+/// A log of so many traces of one length. Activities come in a rough order, so that constraints of all kinds are met or nearly so.
+fn log(name: &'static str, activities: u32, traces: usize, length: usize, threshold: u32) -> Log {
+    let mut rng = Rng::new(activities as u64 + traces as u64);
+    let n = activities as usize;
+    let (mut events, mut ends) = (Vec::new(), Vec::new());
+    for _ in 0..traces {
+        let phase = rng.below(n);
+        events.extend((0..length).map(|i| ((i + phase + rng.below(3)) % n) as u8));
+        ends.push(events.len() as u32);
+    }
+    Log { name, record: Record { activities, traces: traces as u32 }, events, ends, threshold }
+}
+
+fn logs(n: u32) -> Vec<Log> {
+    vec![
+        log("few long", n, 4, 4096, 1),
+        log("few long, pruned", n, 4, 4096, 1000),
+        log("many short", n, 4095, 4, 1),
+        log("many short, pruned", n, 4095, 4, 900),
+        log("many of one event", n, 4095, 1, 1),
+        log("middling", n, 200, 40, 500),
+        log("one of one event", n, 1, 1, 1000),
+    ]
+}
+
+const FINDERS: [&str; 3] = ["archive", "summary", "automaton"];
+
+/// One find by the finder of this number; the list is not cleared before.
+#[no_mangle]
+#[inline(never)]
+fn bench_find(which: usize, automaton: &Automaton, log: &Log, list: &mut [u16]) -> Option<FindAnswer> {
+    let Log { record, events, ends, threshold, .. } = black_box(log);
+    match which {
+        0 => Archive.find(*record, events, ends, *threshold, list).ok(),
+        1 => find(&Summary, *record, events, ends, *threshold, list).ok(),
+        _ => find(automaton, *record, events, ends, *threshold, list).ok(),
+    }
+}
+
+#[repr(C)]
+struct Timespec {
+    seconds: i64,
+    nanoseconds: i64,
+}
+
+extern "C" {
+    fn clock_gettime(clock: i32, time: *mut Timespec) -> i32;
+}
+
+/// This thread's processor time, in seconds: other programs on the machine are not counted.
+fn now() -> f64 {
+    const THREAD_CPUTIME: i32 = 3;
+    let mut t = Timespec { seconds: 0, nanoseconds: 0 };
+    let said = unsafe { clock_gettime(THREAD_CPUTIME, &mut t) };
+    assert_eq!(said, 0);
+    t.seconds as f64 + t.nanoseconds as f64 * 1e-9
+}
+
+/// The best time of each finder over several rounds, each taking its turn in every round.
+fn times(automaton: &Automaton, log: &Log) -> ([f64; 3], FindAnswer) {
+    let mut best = [f64::MAX; 3];
+    let mut lists = [vec![0u16; 60000], vec![0u16; 60000], vec![0u16; 60000]];
+    let mut said = [None; 3];
+    let (start, mut rounds) = (now(), 0);
+    while rounds < 5 || (rounds < 200 && now() - start < 0.5) {
+        for which in 0..3 {
+            let before = now();
+            said[which] = bench_find(which, automaton, log, &mut lists[which]);
+            best[which] = best[which].min(now() - before);
+        }
+        rounds += 1;
+    }
+    assert!(said[0].is_some() && said[0] == said[1] && said[1] == said[2] && lists[0] == lists[1] && lists[1] == lists[2]);
+    (best, said[0].unwrap())
+}
+
+fn print_times() {
+    let automaton = Automaton::new();
+    println!(
+        "{:<19} {:>3} {:>6} {:>6} {:>9} {:>8} {:>10} {:>10} {:>10} {:>10} {:>12}",
+        "log", "N", "traces", "events", "threshold", "replayed", "archive ms", "summary", "automaton", "to summary", "to automaton"
+    );
+    let mut worst = [0f64; 2];
+    for n in [5, 16, 32] {
+        for log in logs(n) {
+            let (t, said) = times(&automaton, &log);
+            let ratios = [t[0] / t[1], t[0] / t[2]];
+            println!(
+                "{:<19} {:>3} {:>6} {:>6} {:>9} {:>8} {:>10.3} {:>10.3} {:>10.3} {:>10.2} {:>12.2}",
+                log.name,
+                n,
+                log.record.traces,
+                log.events.len(),
+                log.threshold,
+                said.replayed,
+                t[0] * 1e3,
+                t[1] * 1e3,
+                t[2] * 1e3,
+                ratios[0],
+                ratios[1]
+            );
+            worst = [worst[0].max(ratios[0]), worst[1].max(ratios[1])];
+        }
+    }
+    println!("worst: {:.2} to the summary, {:.2} to the automaton", worst[0], worst[1]);
+}
+
+/// Runs one find under callgrind, in a process of its own, and gives the instructions of the find alone.
+fn instructions(which: usize, n: u32, at: usize) -> u64 {
+    let out = Command::new("valgrind")
+        .args(["--tool=callgrind", "--callgrind-out-file=/dev/null", "--toggle-collect=bench_find"])
+        .arg(std::env::current_exe().unwrap())
+        .args(["one", &which.to_string(), &n.to_string(), &at.to_string()])
+        .output()
+        .expect("valgrind runs");
+    let said = String::from_utf8_lossy(&out.stderr).to_string();
+    let line = said.lines().find(|l| l.contains("Collected")).unwrap_or_else(|| panic!("{said}"));
+    line.rsplit(' ').next().unwrap().parse().unwrap()
+}
+
+fn print_instructions() {
+    let automaton = Automaton::new();
+    println!("Instructions for each event replayed (a find replays each kept constraint twice), with all else that the find does.");
+    println!(
+        "{:<19} {:>3} {:>14} {:>8} {:>8} {:>9} {:>10} {:>12}",
+        "log", "N", "replayed", "archive", "summary", "automaton", "to summary", "to automaton"
+    );
+    for n in [5, 16] {
+        for (at, log) in logs(n).iter().enumerate() {
+            let said = bench_find(2, &automaton, log, &mut vec![0; 60000]).unwrap();
+            let replayed = 2 * said.replayed as u64 * log.events.len() as u64;
+            let each = [0, 1, 2].map(|which| instructions(which, n, at) as f64 / replayed as f64);
+            println!(
+                "{:<19} {:>3} {:>14} {:>8.1} {:>8.1} {:>9.1} {:>10.2} {:>12.2}",
+                log.name,
+                n,
+                replayed,
+                each[0],
+                each[1],
+                each[2],
+                each[0] / each[1],
+                each[0] / each[2]
+            );
+        }
+    }
+}
+
+fn main() {
+    let words: Vec<String> = std::env::args().skip(1).collect();
+    let number = |k: usize| words[k].parse::<usize>().unwrap();
+    match words.first().map(String::as_str) {
+        None => print_times(),
+        Some("instructions") => print_instructions(),
+        Some("one") => {
+            let (which, n, at) = (number(1), number(2), number(3));
+            let said = bench_find(which, &Automaton::new(), &logs(n as u32)[at], &mut vec![0; 60000]);
+            println!("{} {said:?}", FINDERS[which]);
+        }
+        Some(word) => panic!("{word}: give nothing, or the word instructions"),
+    }
+}

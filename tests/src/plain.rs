@@ -1,0 +1,245 @@
+//! A finder in plain Rust, as fast as its kind allows and with no proof: what the benchmark sets beside the archive's `find`. It
+//! works as that one does: class by template number, support counted from the events, one replay of each trace for each
+//! constraint that pruning keeps, once to know what is needed and once to write, no memory but what is lent.
+//!
+//! Two replayers: `Summary` keeps the flags that decide all templates, as the proved one does; `Automaton` keeps one state of the
+//! constraint's own automaton and looks the next one up.
+
+use crate::calls::{FindAnswer, Record};
+use crate::oracle::ledger::{refusal, Refusal};
+use crate::oracle::templates::{verdict, Verdict};
+use std::collections::HashMap;
+
+pub trait Replay {
+    fn fulfilled(&self, template: u8, a: u8, b: u8, trace: &[u8]) -> bool;
+}
+
+pub struct Summary;
+
+impl Replay for Summary {
+    #[inline]
+    fn fulfilled(&self, template: u8, a: u8, b: u8, trace: &[u8]) -> bool {
+        let (mut one, mut two, mut three, mut seen) = (false, false, false, false);
+        let (mut started, mut first, mut last, mut owed) = (false, false, false, false);
+        let (mut doubled, mut missed, mut early, mut bare) = (false, false, false, false);
+        let (mut loose, mut later, mut next) = (false, false, false);
+        for &event in trace {
+            let (is_a, is_b) = (event == a, event == b);
+            doubled |= is_a & owed & !is_b;
+            missed |= last & !is_b;
+            early |= is_b & !one;
+            bare |= is_b & !owed;
+            loose |= is_b & !last;
+            later |= is_b & one;
+            next |= is_b & last;
+            owed = is_a | (owed & !is_b);
+            first |= is_a & !started;
+            started = true;
+            last = is_a;
+            seen |= is_b;
+            three |= is_a & two;
+            two |= is_a & one;
+            one |= is_a;
+        }
+        match template {
+            1 => one,
+            2 => two,
+            3 => three,
+            4 => !one,
+            5 => !two,
+            6 => !three,
+            7 => first,
+            8 => last,
+            9 => one | seen,
+            10 => one != seen,
+            11 => one & seen,
+            12 => one != seen,
+            13 => one & seen,
+            14 => one & !owed,
+            15 => one & !owed & !doubled,
+            16 => one & !missed & !last,
+            17 => seen & !early,
+            18 => seen & !bare,
+            19 => seen & !loose,
+            20 => one & !owed & !early,
+            21 => one & !owed & !doubled & !bare,
+            22 => one & !missed & !last & !loose,
+            23 => (one | seen) & !later,
+            _ => (one | seen) & !next,
+        }
+    }
+}
+
+const STATES: usize = 16;
+
+/// For each template its automaton over the letters a, b and other; state 0 is the start.
+pub struct Automaton {
+    next: [[[u8; 4]; STATES]; 25],
+    fulfilled: [[bool; STATES]; 25],
+}
+
+/// All words over three letters of at most this length.
+fn words(longest: usize) -> Vec<Vec<u8>> {
+    let mut all = vec![vec![]];
+    let mut from = 0;
+    for _ in 0..longest {
+        let to = all.len();
+        for k in from..to {
+            for x in 0..3 {
+                let mut w: Vec<u8> = all[k].clone();
+                w.push(x);
+                all.push(w);
+            }
+        }
+        from = to;
+    }
+    all
+}
+
+impl Automaton {
+    /// Made from the templates' meaning: two words lead to one state when no continuation of up to four events tells them apart.
+    /// For one-step templates the letter b does not come.
+    #[allow(clippy::new_without_default)]
+    pub fn new() -> Automaton {
+        let mut made = Automaton { next: [[[0; 4]; STATES]; 25], fulfilled: [[false; STATES]; 25] };
+        let suffixes = words(4);
+        for template in 1..=24 {
+            let letters: &[u8] = if template <= 8 { &[0, 2] } else { &[0, 1, 2] };
+            let told = |w: &[u8]| -> Vec<Verdict> { suffixes.iter().map(|s| verdict(template, 0, 1, &[w, s].concat())).collect() };
+            let mut states: Vec<Vec<u8>> = vec![vec![]];
+            let mut known = HashMap::from([(format!("{:?}", told(&[])), 0)]);
+            let mut k = 0;
+            while k < states.len() {
+                for &x in letters {
+                    let mut w = states[k].clone();
+                    w.push(x);
+                    let to = *known.entry(format!("{:?}", told(&w))).or_insert_with(|| {
+                        states.push(w);
+                        states.len() - 1
+                    });
+                    made.next[template as usize][k][x as usize] = to as u8;
+                }
+                made.fulfilled[template as usize][k] = verdict(template, 0, 1, &states[k]) == Verdict::Fulfilled;
+                k += 1;
+            }
+            assert!(states.len() <= STATES);
+        }
+        made
+    }
+}
+
+impl Replay for Automaton {
+    #[inline]
+    fn fulfilled(&self, template: u8, a: u8, b: u8, trace: &[u8]) -> bool {
+        let next = &self.next[template as usize];
+        let mut state = 0;
+        for &event in trace {
+            let letter = if event == a {
+                0
+            } else if event == b {
+                1
+            } else {
+                2
+            };
+            state = next[state as usize % STATES][letter];
+        }
+        self.fulfilled[template as usize][state as usize % STATES]
+    }
+}
+
+fn is_sound(record: Record, events: &[u8], ends: &[u32]) -> bool {
+    let count = record.traces as usize;
+    if !(1..=32).contains(&record.activities) || count > 4095 || count > ends.len() {
+        return false;
+    }
+    let mut last = 0;
+    for &end in &ends[..count] {
+        if end < last || end - last > 4096 {
+            return false;
+        }
+        last = end;
+    }
+    last as usize <= events.len() && events[..last as usize].iter().all(|&x| (x as u32) < record.activities)
+}
+
+/// The kept traces as parts of the events.
+fn traces<'a>(record: Record, events: &'a [u8], ends: &'a [u32]) -> impl Iterator<Item = &'a [u8]> {
+    let mut from = 0;
+    ends[..record.traces as usize].iter().map(move |&end| {
+        let trace = &events[from..end as usize];
+        from = end as usize;
+        trace
+    })
+}
+
+/// The kept traces that count for the constraint's class.
+#[inline]
+fn support(record: Record, events: &[u8], ends: &[u32], template: u8, a: u8, b: u8) -> u32 {
+    let counts = |trace: &[u8]| match template {
+        1..=3 | 7..=8 => trace.contains(&a),
+        4..=6 => true,
+        9..=10 | 12 | 23..=24 => trace.contains(&a) || trace.contains(&b),
+        _ => trace.contains(&a) && trace.contains(&b),
+    };
+    traces(record, events, ends).filter(|w| counts(w)).count() as u32
+}
+
+fn meets(count: u32, threshold: u32, traces: u32) -> bool {
+    1000 * count >= threshold * traces
+}
+
+/// Goes over the constraints in their order and hands each one to be listed on, with its count. Gives the replayed number.
+fn walk<R: Replay>(r: &R, record: Record, events: &[u8], ends: &[u32], threshold: u32, mut listed: impl FnMut([u16; 4])) -> u32 {
+    let n = record.activities as u8;
+    let mut replayed = 0;
+    for template in 1..=24u8 {
+        for a in 0..n {
+            let (from, to) = match template {
+                1..=8 => (a, a + 1),
+                9..=12 => (a + 1, n),
+                _ => (0, n),
+            };
+            for b in from..to {
+                if template > 12 && a == b {
+                    continue;
+                }
+                if !meets(support(record, events, ends, template, a, b), threshold, record.traces) {
+                    continue;
+                }
+                let count = traces(record, events, ends).filter(|w| r.fulfilled(template, a, b, w)).count() as u32;
+                replayed += 1;
+                if meets(count, threshold, record.traces) {
+                    listed([template as u16, a as u16, b as u16, count as u16]);
+                }
+            }
+        }
+    }
+    replayed
+}
+
+pub fn find<R: Replay>(
+    r: &R,
+    record: Record,
+    events: &[u8],
+    ends: &[u32],
+    threshold: u32,
+    list: &mut [u16],
+) -> Result<FindAnswer, Refusal> {
+    if !is_sound(record, events, ends) {
+        return Err(refusal(1, 0));
+    }
+    if !(1..=1000).contains(&threshold) {
+        return Err(refusal(3, 0));
+    }
+    if record.traces == 0 {
+        return Err(refusal(11, 0));
+    }
+    let mut needed = 0;
+    let replayed = walk(r, record, events, ends, threshold, |_| needed += 1);
+    if list.len() < 4 * needed {
+        return Err(refusal(10, needed));
+    }
+    let mut places = list.chunks_exact_mut(4);
+    walk(r, record, events, ends, threshold, |rule| places.next().unwrap().copy_from_slice(&rule));
+    Ok(FindAnswer { listed: needed as u32, replayed, traces: record.traces })
+}

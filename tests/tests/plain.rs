@@ -1,0 +1,30 @@
+//! The plain finder of the benchmark gives what the model gives.
+
+use budgieleaf_tests::calls::Calls;
+use budgieleaf_tests::oracle::memory::Model;
+use budgieleaf_tests::plain::{find, Automaton, Summary};
+use budgieleaf_tests::rng::{cases, Rng};
+use budgieleaf_tests::{gen, memories};
+
+#[test]
+fn the_plain_finder_agrees_with_the_model() {
+    let rng = &mut Rng::new(40);
+    let automaton = Automaton::new();
+    for case in 0..cases(600) {
+        let memory = if case % 3 == 0 { memories::arbitrary(rng) } else { memories::sound(rng) };
+        let (threshold, room) = (gen::threshold(rng), rng.pick(&[10, 400, 60000]));
+        let lists: Vec<_> = (0..3)
+            .map(|which| {
+                let (events, ends, mut list) = (memory.events.get(), memory.ends.get(), vec![7; room]);
+                let said = match which {
+                    0 => Model.find(memory.record, events, ends, threshold, &mut list),
+                    1 => find(&Summary, memory.record, events, ends, threshold, &mut list),
+                    _ => find(&automaton, memory.record, events, ends, threshold, &mut list),
+                };
+                (said, list)
+            })
+            .collect();
+        assert!(lists[0] == lists[1], "summary, case {case}");
+        assert!(lists[0] == lists[2], "automaton, case {case}");
+    }
+}
