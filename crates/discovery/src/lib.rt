@@ -7,6 +7,7 @@ ghost use lib.ListN.{set};
 ghost use lib.Seq.{sets};
 ghost use mathlib.Core.List.{[], _∷_};
 ghost use Rattle.discovery.specs.Constraints.{class-of, counts-for, support as support-of, meets as meets-test, pairs as pairs-test, survives, constraints};
+ghost use Rattle.discovery.specs.Calls.{Finds};
 ghost use Rattle.discovery.specs.Passes.{Replays, Passes, cell, row, grid, none-yet};
 use declare::Verdict;
 use eventlog::Refusal;
@@ -309,4 +310,49 @@ fn pass_all(store: Store, events: &[u8], ends: &[u32], threshold: u32, list: &mu
         template += 1;
     }
     found
+}
+
+// Document 01's find. What is needed is known before the first number is written.
+fn find(store: Store, events: &[u8], ends: &[u32], threshold: u32, list: &mut [u16]) -> FindAnswer
+    ensures { λ r. ⌜ Finds (memory store (now (events .entry)) (now (ends .entry))) threshold (now (list .entry)) r (now (list .exit)) ⌝ }
+{
+    if !eventlog::is_sound(store, events, ends) {
+        return FindAnswer::Refused(Refusal {
+            number: 1,
+            detail: 0,
+        });
+    }
+    if threshold < 1 {
+        return FindAnswer::Refused(Refusal {
+            number: 3,
+            detail: 0,
+        });
+    }
+    if 1000 < threshold {
+        return FindAnswer::Refused(Refusal {
+            number: 3,
+            detail: 0,
+        });
+    }
+    let traces = store.traces;
+    if traces == 0 {
+        return FindAnswer::Refused(Refusal {
+            number: 11,
+            detail: 0,
+        });
+    }
+    let needed = pass_all(store, events, ends, threshold, &mut list[0..0]);
+    let listed = needed.listed as usize;
+    if list.len() < 4 * listed {
+        return FindAnswer::Refused(Refusal {
+            number: 10,
+            detail: listed,
+        });
+    }
+    let found = pass_all(store, events, ends, threshold, list);
+    FindAnswer::Listed(Found {
+        constraints: found.listed,
+        replayed: found.replayed,
+        traces,
+    })
 }
