@@ -16,6 +16,7 @@ use Rattle.declare.specs.Logic.{_and_, _or_, _implies_, if_then_else_}
 use Rattle.discovery.specs.declared.Constraint.{Constraint}
 use Rattle.discovery.specs.Lists.{those, how-many, numbers-from, for-each}
 use Rattle.discovery.specs.Constraints.{pairs, constraints, trace-count, meets, fulfilments, survives, support, listed, replayed, layout}
+use Rattle.discovery.specs.Passes.{cell, row, grid}
 use Rattle.discovery.specs.Claims.{Over, Precedes, Exactly}
 use Rattle.discovery.proofs.Pruning.{how-many-cons, how-many-weaker, listed-survives}
 
@@ -82,15 +83,6 @@ member-number x first (suc more) low high = go (ℕ-discrete x first) (member-nu
     go (no n) f = List·Memᴰ·tail (f (omega arith) (omega arith))
 
 -- ## The constraints: cells of a template's grid, a row for each a
-
-abbrev cell : ℕ → ℕ → ℕ → List Constraint
-cell t a b = if pairs t a b then record { template = t; a = a; b = b } ∷ [] else []
-
-abbrev row : ℕ → ℕ → ℕ → List Constraint
-row n t a = for-each (numbers-from 0 n) (cell t a)
-
-abbrev grid : ℕ → ℕ → List Constraint
-grid n t = for-each (numbers-from 0 n) (row n t)
 
 record InCell (t a b : ℕ) (c : Constraint) : Type 0 where
   is-template : c .template ≡ t
