@@ -1,6 +1,7 @@
 //! The calls through the archive on records and buffers that no history made: unsound ones of each kind, sound ones at the
 //! limits, arbitrary ones. Answer, record and every byte lent are compared with the model.
 
+use budgieleaf_tests::calls::{Calls, FindAnswer};
 use budgieleaf_tests::capi::Archive;
 use budgieleaf_tests::gen;
 use budgieleaf_tests::memories::{self, UNSOUND};
@@ -74,4 +75,26 @@ fn arbitrary() {
         }
     }
     assert!(accepted > 1000 && unsound > 1000, "{accepted} accepted, {unsound} unsound");
+}
+
+/// Lengths that 32 bits cannot hold. The pages of these slices are never written, so they take next to no memory.
+#[test]
+fn slices_longer_than_32_bits_count() {
+    let beyond = (1usize << 32) + 5;
+    let (mut events, mut ends) = (vec![0u8; beyond], [7u32; 3]);
+    let record = Archive.open(1).unwrap();
+    let mut long = vec![0u8; beyond];
+    assert_eq!(Archive.add(record, &mut events, &mut ends, &long), (record, Err(refusal(7, 0))));
+    long[beyond - 1] = 1;
+    assert_eq!(Archive.add(record, &mut events, &mut ends, &long), (record, Err(refusal(6, beyond))));
+    drop(long);
+    assert_eq!(ends, [7; 3]);
+    let (record, said) = Archive.add(record, &mut events, &mut ends, &[0; 9]);
+    assert_eq!((record.traces, said), (1, Ok(())));
+    let (record, said) = Archive.read(record, &mut events, &mut ends, b"     1  0\n");
+    assert_eq!((record.traces, said, ends), (2, Ok(1), [9, 10, 7]));
+    let mut list = vec![0u16; beyond];
+    let said = Archive.find(record, &events, &ends, 1000, &mut list);
+    assert_eq!(said, Ok(FindAnswer { listed: 3, replayed: 8, traces: 2 }));
+    assert_eq!(list[..16], [1, 0, 0, 2, 7, 0, 0, 2, 8, 0, 0, 2, 0, 0, 0, 0]);
 }

@@ -43,6 +43,17 @@ fn logs(n: u32) -> Vec<Log> {
     ]
 }
 
+/// Smaller ones, since callgrind takes some fifty times as long.
+fn counted_logs() -> Vec<Log> {
+    vec![
+        log("few long", 5, 4, 4096, 1),
+        log("many short", 5, 4095, 4, 1),
+        log("many short, pruned", 5, 4095, 4, 900),
+        log("middling", 16, 50, 40, 500),
+        log("few long", 32, 1, 400, 1),
+    ]
+}
+
 const FINDERS: [&str; 3] = ["archive", "summary", "automaton"];
 
 /// One find by the finder of this number; the list is not cleared before.
@@ -126,11 +137,11 @@ fn print_times() {
 }
 
 /// Runs one find under callgrind, in a process of its own, and gives the instructions of the find alone.
-fn instructions(which: usize, n: u32, at: usize) -> u64 {
+fn instructions(which: usize, at: usize) -> u64 {
     let out = Command::new("valgrind")
         .args(["--tool=callgrind", "--callgrind-out-file=/dev/null", "--toggle-collect=bench_find"])
         .arg(std::env::current_exe().unwrap())
-        .args(["one", &which.to_string(), &n.to_string(), &at.to_string()])
+        .args(["one", &which.to_string(), &at.to_string()])
         .output()
         .expect("valgrind runs");
     let said = String::from_utf8_lossy(&out.stderr).to_string();
@@ -142,26 +153,27 @@ fn print_instructions() {
     let automaton = Automaton::new();
     println!("Instructions for each event replayed (a find replays each kept constraint twice), with all else that the find does.");
     println!(
-        "{:<19} {:>3} {:>14} {:>8} {:>8} {:>9} {:>10} {:>12}",
-        "log", "N", "replayed", "archive", "summary", "automaton", "to summary", "to automaton"
+        "{:<19} {:>3} {:>6} {:>6} {:>9} {:>15} {:>8} {:>8} {:>9} {:>10} {:>12}",
+        "log", "N", "traces", "events", "threshold", "events replayed", "archive", "summary", "automaton", "to summary", "to automaton"
     );
-    for n in [5, 16] {
-        for (at, log) in logs(n).iter().enumerate() {
-            let said = bench_find(2, &automaton, log, &mut vec![0; 60000]).unwrap();
-            let replayed = 2 * said.replayed as u64 * log.events.len() as u64;
-            let each = [0, 1, 2].map(|which| instructions(which, n, at) as f64 / replayed as f64);
-            println!(
-                "{:<19} {:>3} {:>14} {:>8.1} {:>8.1} {:>9.1} {:>10.2} {:>12.2}",
-                log.name,
-                n,
-                replayed,
-                each[0],
-                each[1],
-                each[2],
-                each[0] / each[1],
-                each[0] / each[2]
-            );
-        }
+    for (at, log) in counted_logs().iter().enumerate() {
+        let said = bench_find(2, &automaton, log, &mut vec![0; 60000]).unwrap();
+        let replayed = 2 * said.replayed as u64 * log.events.len() as u64;
+        let each = [0, 1, 2].map(|which| instructions(which, at) as f64 / replayed as f64);
+        println!(
+            "{:<19} {:>3} {:>6} {:>6} {:>9} {:>15} {:>8.1} {:>8.1} {:>9.1} {:>10.2} {:>12.2}",
+            log.name,
+            log.record.activities,
+            log.record.traces,
+            log.events.len(),
+            log.threshold,
+            replayed,
+            each[0],
+            each[1],
+            each[2],
+            each[0] / each[1],
+            each[0] / each[2]
+        );
     }
 }
 
@@ -172,8 +184,8 @@ fn main() {
         None => print_times(),
         Some("instructions") => print_instructions(),
         Some("one") => {
-            let (which, n, at) = (number(1), number(2), number(3));
-            let said = bench_find(which, &Automaton::new(), &logs(n as u32)[at], &mut vec![0; 60000]);
+            let (which, at) = (number(1), number(2));
+            let said = bench_find(which, &Automaton::new(), &counted_logs()[at], &mut vec![0; 60000]);
             println!("{} {said:?}", FINDERS[which]);
         }
         Some(word) => panic!("{word}: give nothing, or the word instructions"),
