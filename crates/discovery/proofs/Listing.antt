@@ -1,21 +1,21 @@
 -- The list by membership and order: exactly the constraints that meet the threshold, in the stated order, each once; and how many there are.
 -- Assumes nothing.
-use Prim.Native.Nat.{ℕ, zero, suc, _+_, _-_, _*_, _≤_, _<_}
+use Prim.Native.Nat.{ℕ, zero, suc, _+_, _*_, _≤_, _<_}
 use mathlib.Core.Path.{_≡_, refl, sym, ap, ap₂, subst, _∙_, fun-ext}
-use mathlib.Core.Logic.{_⊎_, inl, inr, ⊎-elim, _↔_, ∥∥₁-elim, ∥∥₁-map}
-use mathlib.Core.Bool.{Bool, true, false, not, true≢false, false≢true, Bool-set}
-use mathlib.Core.List.{List, [], _∷_, _++_, append-assoc, List·Memᴰ, List·Memᴰ·head, List·Memᴰ·tail, List·Mem, List·Memᴰ·not-nil, List·Memᴰ·cases-cons, List·Memᴰ·eq-of-singleton, List·Memᴰ·append-cases, Memᴰ·append-left, Memᴰ·append-right, Sublistᴰ, Sublistᴰ·slnil, Sublistᴰ·cons, Sublistᴰ·cons-cons, Pairwise, Pairwise·nil, Pairwise·cons, Pairwise·sublistᴰ, pairwise-singleton, pairwise-append, rel-of-pairwise-cons, Pairwise·of-cons, not-mem-nil, mem-cons-self, mem-cons-of-mem, mem-of-ne-of-mem, mem-cast}
+use mathlib.Core.Logic.{_⊎_, inl, inr, ⊎-elim, _↔_, ∥∥₁-elim}
+use mathlib.Core.Bool.{Bool, true, false, not, true≢false, Bool-set}
+use mathlib.Core.List.{List, [], _∷_, _++_, append-assoc, List·Memᴰ, List·Memᴰ·head, List·Memᴰ·tail, List·Mem, List·Memᴰ·not-nil, List·Memᴰ·cases-cons, List·Memᴰ·eq-of-singleton, List·Memᴰ·append-cases, Memᴰ·append-left, Memᴰ·append-right, Sublistᴰ, Sublistᴰ·slnil, Sublistᴰ·cons, Sublistᴰ·cons-cons, Pairwise, Pairwise·nil, Pairwise·sublistᴰ, pairwise-singleton, pairwise-append, rel-of-pairwise-cons, Pairwise·of-cons, not-mem-nil, mem-cons-self, mem-cons-of-mem, mem-of-ne-of-mem, mem-cast}
 use native.Mathlib.Omega.{arith}
 use native.Mathlib.Decide.{ℕ-discrete}
 use native.Mathlib.Bridge.{le-prop}
 use native.Mathlib.Nat.{ℕ-set, mul-assoc, mul-suc, suc-mul, mul-add}
-use borrow.Author.Tests.{leb-true, leb-false, le-leb, lt-leb, eqb-true, eq-eqb, ne-eqb, lt-ltb, le-ltb}
-use lib.Dec.{eqb, leb, ltb}
+use borrow.Author.Tests.{le-leb, lt-leb, eq-eqb, ne-eqb, lt-ltb, le-ltb}
+use lib.Dec.{eqb, ltb}
 use lib.ListN.{length, length-append}
-use Rattle.declare.specs.Logic.{_and_, _or_, _implies_, if_then_else_}
+use Rattle.declare.specs.Logic.{if_then_else_}
 use Rattle.discovery.specs.declared.Constraint.{Constraint}
 use Rattle.discovery.specs.Lists.{those, how-many, numbers-from, for-each}
-use Rattle.discovery.specs.Constraints.{pairs, constraints, trace-count, meets, fulfilments, survives, support, listed, replayed, layout}
+use Rattle.discovery.specs.Constraints.{pairs, constraints, trace-count, meets, fulfilments, survives, listed, replayed, layout}
 use Rattle.discovery.specs.Passes.{cell, row, grid}
 use Rattle.discovery.specs.Claims.{Over, Precedes, Exactly}
 use Rattle.discovery.proofs.Pruning.{how-many-cons, how-many-weaker, listed-survives}

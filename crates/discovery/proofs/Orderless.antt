@@ -1,21 +1,21 @@
 -- The order of the traces is nothing to discovery: alike traces have equal counts, lists and numbers.
 -- Assumes nothing.
-use Prim.Native.Nat.{ℕ, zero, suc, _+_, _*_, _≤_, _<_}
-use mathlib.Core.Path.{_≡_, refl, sym, ap, ap₂, subst, _∙_, fun-ext}
+use Prim.Native.Nat.{ℕ, suc, _≤_}
+use mathlib.Core.Path.{_≡_, refl, sym, ap, ap₂, _∙_, fun-ext}
 use mathlib.Core.Logic.{_↔_, ∥∥₁-elim}
-use mathlib.Core.Bool.{Bool, true, false, not, true≢false, false≢true}
-use mathlib.Core.List.{List, [], _∷_, _++_, List·Permᴰ, List·Permᴰ·nil, List·Permᴰ·cons, List·Permᴰ·swap, List·Permᴰ·trans, Perm, Permᴰ·refl, Permᴰ·symm}
+use mathlib.Core.Bool.{Bool, true, false, false≢true}
+use mathlib.Core.List.{List, [], _∷_, List·Permᴰ, List·Permᴰ·nil, List·Permᴰ·cons, List·Permᴰ·swap, List·Permᴰ·trans, Perm, Permᴰ·refl, Permᴰ·symm}
 use native.Mathlib.Omega.{arith}
 use native.Mathlib.Nat.{ℕ-set}
 use borrow.Author.Tests.{eqb-true, eq-eqb}
 use lib.Dec.{eqb}
 use lib.ListN.{length}
-use Rattle.declare.specs.Logic.{_and_, if_then_else_}
+use Rattle.declare.specs.Logic.{if_then_else_}
 use Rattle.declare.specs.Meaning.{fulfilled}
 use Rattle.eventlog.proofs.Laws.{and-left, and-right, and-both}
 use Rattle.discovery.specs.declared.Constraint.{Constraint}
 use Rattle.discovery.specs.Lists.{those, how-many, for-each}
-use Rattle.discovery.specs.Constraints.{constraints, trace-count, meets, fulfilments, survives, support, listed, replayed, layout}
+use Rattle.discovery.specs.Constraints.{constraints, trace-count, meets, fulfilments, support, listed, replayed, layout}
 use Rattle.discovery.specs.Claims.{same, Alike}
 use Rattle.discovery.proofs.Pruning.{how-many-cons}
 

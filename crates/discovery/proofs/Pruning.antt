@@ -1,17 +1,17 @@
 -- Pruning loses nothing: a trace that is fulfilled for a constraint counts for the constraint's class.
 -- Assumes nothing.
 use Prim.Native.Nat.{ℕ, zero, suc, _+_, _*_, _≤_, _<_}
-use mathlib.Core.Path.{_≡_, refl, sym, ap, subst, _∙_}
+use mathlib.Core.Path.{_≡_, refl, sym, _∙_}
 use mathlib.Core.Bool.{Bool, true, false, not, true≢false, false≢true}
 use mathlib.Core.List.{List, [], _∷_, _++_}
 use native.Mathlib.Omega.{arith}
 use native.Mathlib.Decide.{ℕ-discrete, decLt}
-use borrow.Author.Tests.{leb-true, leb-false, le-leb, lt-leb, eqb-true}
+use borrow.Author.Tests.{leb-true, le-leb, lt-leb}
 use lib.Dec.{eqb, leb}
 use lib.ListN.{length}
 use lib.Seq.{append-snoc}
 use Rattle.declare.specs.Logic.{_and_, _or_, _implies_, if_then_else_}
-use Rattle.declare.specs.Meaning.{Test, Meaning, each-on, some-on, each, some, occurs, times, starts-with, ends-with, response, alternate-response, chain-response, precedence, alternate-precedence, chain-precedence, meanings, holds, activated, fulfilled}
+use Rattle.declare.specs.Meaning.{Test, each-on, some-on, each, some, occurs, times, starts-with, ends-with, response, alternate-response, chain-response, precedence, alternate-precedence, chain-precedence, meanings, holds, activated, fulfilled}
 use Rattle.eventlog.proofs.Laws.{and-left, and-right, and-both}
 use Rattle.discovery.specs.Lists.{those, how-many}
 use Rattle.discovery.specs.declared.Constraint.{Constraint}

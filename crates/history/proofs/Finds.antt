@@ -7,10 +7,9 @@ use native.Mathlib.Omega.{arith}
 use borrow.Author.Tests.{ltb-false}
 use lib.ListN.{length, take, drop}
 use lib.Seq.{sets, sets-eq, take-at}
-use Rattle.declare.specs.Logic.{_and_}
 use Rattle.eventlog.specs.Checks.{gives, reply}
-use Rattle.eventlog.specs.Calls.{Room, room}
-use Rattle.eventlog.proofs.Adding.{given-new, accepted}
+use Rattle.eventlog.specs.Calls.{Room}
+use Rattle.eventlog.proofs.Adding.{given-new}
 use Rattle.discovery.specs.declared.Constraint.{Constraint}
 use Rattle.discovery.specs.Constraints.{trace-count, layout, listed, replayed}
 use Rattle.discovery.proofs.Listing.{listed-exactly, replayed-exactly, replayed-at-most, layout-length}

@@ -1,12 +1,12 @@
 -- Replies: what a given or refused reply tells, and a sound memory's reply.
 -- Assumes nothing.
 use Prim.Native.Nat.{ℕ}
-use mathlib.Core.Path.{_≡_, refl, sym, ap, _∙_}
-use mathlib.Core.Bool.{Bool, true, false, not}
+use mathlib.Core.Path.{_≡_, refl}
+use mathlib.Core.Bool.{Bool, true, false}
 use mathlib.Core.List.{List, [], _∷_}
 use native.Mathlib.Omega.{arith}
 use Rattle.declare.specs.Logic.{if_then_else_}
-use Rattle.eventlog.specs.Checks.{Check, Reply, gives, refused, reply, when-passed}
+use Rattle.eventlog.specs.Checks.{Check, gives, refused, reply, when-passed}
 use Rattle.eventlog.specs.Store.{Memory, sound}
 use Rattle.eventlog.specs.Calls.{unsound}
 use Rattle.eventlog.proofs.Adding.{None-fail}
