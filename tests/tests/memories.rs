@@ -56,7 +56,7 @@ fn sound() {
 #[test]
 fn sound_at_the_limits() {
     let rng = &mut Rng::new(31);
-    for _ in 0..cases(40) {
+    for _ in 0..cases(24) {
         let memory = memories::at_the_limits(rng);
         let said = check(rng, "at the limits", &memory);
         assert!(said.iter().all(|&s| s != Said::Refused(refusal(1, 0))), "{said:?}");
