@@ -22,7 +22,7 @@ use Rattle.columns.specs.declared.Step.{Step}
 use Rattle.columns.specs.declared.ReadAnswer.{ReadAnswer}
 use Rattle.columns.specs.Field.{line-feed, well-formed, value}
 use Rattle.columns.specs.Log.{Line, line-of, lines-within, lines, Before, Onto, nothing-read, with-line, last?, length-of, extend-last, number-falls, same-trace, line-checks, log-checks-from, spelled-from}
-use Rattle.columns.specs.Survey.{entry-of, Within, full-of, unplaced-of, fault-of, next-of, step-of, survey-of, accepted}
+use Rattle.columns.specs.Survey.{entry-of, Within, full-of, unplaced-of, fault-of, next-of, step-of, survey-of, accepted, limits-of, at-start}
 use Rattle.columns.specs.Calls.{read-said}
 use Rattle.columns.proofs.Bools.{either, clash}
 use Rattle.columns.proofs.Passes.{Passed, passed, within-next}
@@ -30,13 +30,6 @@ use Rattle.columns.proofs.Traces.{Each, total-last, each-last, each-fro
 use Rattle.eventlog.proofs.Laws.{all-below-append, and-left, and-right}
 
 -- ## What stands before a line, in numbers
-
-abbrev pub limits-of : Onto → Limits
-limits-of o = record { activities = o .activities; traces = o .count; events = o .room .events; ends = o .room .ends }
-
--- before the first line
-abbrev pub at-start : Onto → Progress
-at-start o = record { number = 0; left = 0; added = 0; last = o .last }
 
 -- after some lines, the last of which is `line`, that spell `traces` and then `trace`
 abbrev pub going : Line → List (List ℕ) → List ℕ → Before
@@ -56,7 +49,7 @@ last-of [] trace = refl
 last-of (t ∷ []) trace = refl
 last-of (t ∷ (u ∷ traces)) trace = last-of (u ∷ traces) trace
 
-extended : (traces : List (List ℕ)) (trace : List ℕ) (x : ℕ) → extend-last (traces ++ (trace ∷ [])) x ≡ traces ++ ((trace ++ (x ∷ [])) ∷ [])
+pub extended : (traces : List (List ℕ)) (trace : List ℕ) (x : ℕ) → extend-last (traces ++ (trace ∷ [])) x ≡ traces ++ ((trace ++ (x ∷ [])) ∷ [])
 extended [] trace x = refl
 extended (t ∷ []) trace x = refl
 extended (t ∷ (u ∷ traces)) trace x = ap (λ (l : List (List ℕ)). t ∷ l) (extended (u ∷ traces) trace x)

@@ -12,11 +12,11 @@ use Rattle.eventlog.specs.Store.{Memory, last-end, sound, kept}
 use Rattle.eventlog.specs.Calls.{room}
 use Rattle.columns.specs.declared.ReadAnswer.{ReadAnswer}
 use Rattle.columns.specs.Log.{lines, log-checks, spelled}
-use Rattle.columns.specs.Survey.{Within, survey-of, accepted}
+use Rattle.columns.specs.Survey.{Within, survey-of, accepted, limits-of, at-start}
 use Rattle.columns.specs.Calls.{onto, with-traces, read-said}
 use Rattle.eventlog.proofs.Laws.{sound-facts, last-end-bound}
 use Rattle.eventlog.proofs.Adding.{None-fail}
-use Rattle.columns.proofs.Agree.{limits-of, at-start, agree, numbered-lines, fitted}
+use Rattle.columns.proofs.Agree.{agree, numbered-lines, fitted}
 use Rattle.columns.proofs.Traces.{Fitting, sound-traces, kept-traces, room-traces}
 
 pub within-start : (m : Memory) → sound m ≡ true → Within (limits-of (onto m)) (at-start (onto m))
@@ -33,7 +33,7 @@ pub none-fail-reply : (checks : List Check) (values : List ℕ) → None-fail ch
 none-fail-reply [] values n = refl
 none-fail-reply (c ∷ checks) values n = rw (n .0) (none-fail-reply checks values (n .1))
 
-given-accepted : (answer : ReadAnswer) (values : List ℕ) → read-said answer ≡ gives values → accepted answer
+pub given-accepted : (answer : ReadAnswer) (values : List ℕ) → read-said answer ≡ gives values → accepted answer
 given-accepted (ReadAnswer.Added traces) values e = tt
 given-accepted (ReadAnswer.Refused refusal) values e = let z : _≡_ {A = ℕ} 0 1 = cc in absurd (omega arith)
 

@@ -4,4 +4,6 @@ pub mod Fields
 pub mod Laws
 pub mod Lines
 pub mod Passes
+pub mod Reading
+pub mod Records
 pub mod Traces

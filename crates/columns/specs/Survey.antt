@@ -1,9 +1,11 @@
 -- How the code goes over a log's lines, with numbers for what stands before a line. Nothing here has to be believed: proofs/Lines.antt
 -- shows that it comes to `log-checks` and `spelled`.
 -- Assumes nothing.
-use Prim.Native.Nat.{ℕ, _+_, _-_, _*_, _≤_}
+use Prim.Native.Nat.{ℕ, _+_, _-_, _*_, _≤_, _<_}
+use mathlib.Core.Path.{_≡_}
 use mathlib.Core.Bool.{Bool, true, false}
 use mathlib.Core.List.{List, [], _∷_}
+use lib.ListN.{length, set}
 use lib.Dec.{eqb, leb, ltb}
 use Rattle.declare.specs.Logic.{_or_, if_then_else_}
 use Rattle.eventlog.specs.Store.{most-traces, longest-trace}
@@ -12,10 +14,17 @@ use Rattle.columns.specs.declared.Limits.{Limits}
 use Rattle.columns.specs.declared.Progress.{Progress}
 use Rattle.columns.specs.declared.Step.{Step}
 use Rattle.columns.specs.declared.ReadAnswer.{ReadAnswer}
-use Rattle.columns.specs.Log.{Line}
+use Rattle.columns.specs.Log.{Line, Onto}
 
 abbrev pub entry-of : Line → Entry
 entry-of line = if line .laid-out then Entry.Event (line .number) (line .activity) else Entry.Malformed
+
+abbrev pub limits-of : Onto → Limits
+limits-of o = record { activities = o .activities; traces = o .count; events = o .room .events; ends = o .room .ends }
+
+-- before the first line
+abbrev pub at-start : Onto → Progress
+at-start o = record { number = 0; left = 0; added = 0; last = o .last }
 
 -- The numbers stay in bounds: the traces, and the last end with what its trace can still take.
 pub record Within (limits : Limits) (p : Progress) : Type 0 where
@@ -61,3 +70,45 @@ survey-of limits p place (line ∷ rest) =
 abbrev pub accepted : ReadAnswer → Type 0
 accepted (ReadAnswer.Added traces) = Unit {0}
 accepted (ReadAnswer.Refused refusal) = ⊥
+
+-- ## The second pass
+
+pub record Buffers : Type 0 where
+  pub events : List ℕ
+  pub ends : List ℕ
+
+abbrev pub moved : Progress → Entry → Progress
+moved p Entry.Malformed = p
+moved p (Entry.Event number activity) = next-of p number
+
+-- the event at the end of the last trace, and the end of that trace after it
+abbrev pub noted : ℕ → Progress → Entry → Buffers → Buffers
+noted traces p Entry.Malformed b = b
+noted traces p (Entry.Event number activity) b =
+    record {
+      events = set (b .events) (p .last) activity;
+      ends = set (b .ends) (traces + next-of p number .added - 1) (next-of p number .last);
+    }
+
+-- A line's event has its places in the buffers.
+pub record Placed (traces : ℕ) (p : Progress) (number activity : ℕ) (b : Buffers) : Type 0 where
+  pub byte : activity < 256
+  pub few : traces + p .added ≤ most-traces
+  pub reach : p .last ≤ 16773120
+  pub goes-on : number ≡ p .number → 1 ≤ p .left
+  pub few-after : traces + next-of p number .added ≤ most-traces
+  pub some-trace : 1 ≤ traces + next-of p number .added
+  pub has-end : traces + next-of p number .added ≤ length (b .ends)
+  pub has-event : p .last < length (b .events)
+
+abbrev pub Notable : ℕ → Progress → Entry → Buffers → Type 0
+Notable traces p Entry.Malformed b = Unit {0}
+Notable traces p (Entry.Event number activity) b = Placed traces p number activity b
+
+-- the buffers after the lines
+abbrev pub recorded : ℕ → Progress → Buffers → List Line → Buffers
+recorded traces p b [] = b
+recorded traces p b (line ∷ rest) = recorded traces (moved p (entry-of line)) (noted traces p (entry-of line) b) rest
+
+abbrev pub buffers : List ℕ → List ℕ → Buffers
+buffers events ends = record { events = events; ends = ends }

@@ -4,8 +4,13 @@ ghost use Prim.Native.Nat.{_+_, _≤_, _<_};
 ghost use lib.ListN.{length, take, drop};
 ghost use mathlib.Core.Path.{_≡_};
 ghost use Rattle.columns.specs.Field.{field-of};
-ghost use Rattle.columns.specs.Log.{line-of, lines};
-ghost use Rattle.columns.specs.Survey.{entry-of, Within, full-of, unplaced-of, fault-of, next-of, step-of, survey-of};
+ghost use mathlib.Core.List.{_∷_, []};
+ghost use mathlib.Core.Bool.{true};
+ghost use Rattle.eventlog.specs.Checks.{gives, reply};
+ghost use Rattle.eventlog.specs.Store.{memory, sound};
+ghost use Rattle.columns.specs.Calls.{onto, checks-of-read, with-traces, read-said, Reads};
+ghost use Rattle.columns.specs.Log.{line-of, lines, spelled};
+ghost use Rattle.columns.specs.Survey.{limits-of, at-start, entry-of, Within, full-of, unplaced-of, fault-of, next-of, step-of, survey-of, accepted, moved, noted, Notable, recorded, buffers};
 ghost use Rattle.columns.specs.Scan.{scan-byte, finish, so-far};
 
 pub enum ReadAnswer {
@@ -271,4 +276,108 @@ fn survey(limits: Limits, start: Progress, log: &[u8]) -> ReadAnswer
         place += 1;
     }
     ReadAnswer::Added(p.added)
+}
+
+// One line's event and its trace's end, written.
+fn note(traces: u32, p: Progress, entry: Entry, events: &mut [u8], ends: &mut [u32]) -> Progress
+    requires { ⌜ Notable traces p entry (buffers (now events) (now ends)) ⌝ }
+    ensures { λ r. ⌜ r ≡ moved p entry ⌝ }
+    ensures { λ r. ⌜ buffers (now (events .exit)) (now (ends .exit)) ≡ noted traces p entry (buffers (now (events .entry)) (now (ends .entry))) ⌝ }
+{
+    match entry {
+        Entry::Malformed => p,
+        Entry::Event { number, activity } => {
+            let after = next(p, number);
+            let event = p.last as usize;
+            let end = (traces + after.added - 1) as usize;
+            events[event] = activity as u8;
+            ends[end] = after.last;
+            after
+        }
+    }
+}
+
+// The events and ends of a log that the first pass has accepted, written.
+fn record(limits: Limits, start: Progress, events: &mut [u8], ends: &mut [u32], log: &[u8])
+    requires { ⌜ Within limits start ⌝ }
+    requires { ⌜ (limits .activities ≤ 32) × (length (now events) ≡ limits .events) × (length (now ends) ≡ limits .ends) ⌝ }
+    requires { ⌜ accepted (survey-of limits start 1 (lines (now log))) ⌝ }
+    ensures { λ r. ⌜ buffers (now (events .exit)) (now (ends .exit)) ≡ recorded (limits .traces) start (buffers (now (events .entry)) (now (ends .entry))) (lines (now (log .entry))) ⌝ }
+{
+    let mut p = start;
+    let mut at: usize = 0;
+    while at < log.len() {
+        p = note(limits.traces, p, line_at(log, at), events, ends);
+        at += 10;
+    }
+}
+
+fn limits_in(store: Store, events: &[u8], ends: &[u32]) -> Limits
+    ensures { λ r. ⌜ r ≡ limits-of (onto (memory store (now (events .entry)) (now (ends .entry)))) ⌝ }
+{
+    Limits {
+        activities: store.activities,
+        traces: store.traces,
+        events: events.len(),
+        ends: ends.len(),
+    }
+}
+
+fn start_in(store: Store, events: &[u8], ends: &[u32]) -> Progress
+    ensures { λ r. ⌜ r ≡ at-start (onto (memory store (now (events .entry)) (now (ends .entry)))) ⌝ }
+{
+    Progress {
+        number: 0,
+        left: 0,
+        added: 0,
+        last: eventlog::last_end(store, ends),
+    }
+}
+
+// The answer of read, before anything is written.
+fn answer(store: Store, events: &[u8], ends: &[u32], log: &[u8]) -> ReadAnswer
+    ensures { λ r.
+        ⌜ read-said r ≡ reply (checks-of-read (memory store (now (events .entry)) (now (ends .entry))) (now (log .entry))) (length (spelled (now (log .entry))) ∷ []) ⌝ }
+{
+    if !eventlog::is_sound(store, events, ends) {
+        return ReadAnswer::Refused(Refusal {
+            number: 1,
+            detail: 0,
+        });
+    }
+    survey(
+        limits_in(store, events, ends),
+        start_in(store, events, ends),
+        log,
+    )
+}
+
+// The log's traces, written behind those kept, where the answer was that so many are added.
+fn append(store: Store, events: &mut [u8], ends: &mut [u32], log: &[u8], added: u32) -> Store
+    requires { ⌜ gives (added ∷ []) ≡ reply (checks-of-read (memory store (now events) (now ends)) (now log)) (length (spelled (now log)) ∷ []) ⌝ }
+    ensures { λ r.
+        ⌜ memory r (now (events .exit)) (now (ends .exit)) ≡ with-traces (memory store (now (events .entry)) (now (ends .entry))) (spelled (now (log .entry))) ⌝ }
+{
+    let limits = limits_in(store, events, ends);
+    let start = start_in(store, events, ends);
+    record(limits, start, events, ends, log);
+    Store {
+        activities: store.activities,
+        traces: store.traces + added,
+    }
+}
+
+// The traces that a log in columns spells, added behind those kept; or the refusal of the first line with a fault, and nothing written.
+pub fn read(store: Store, events: &mut [u8], ends: &mut [u32], log: &[u8]) -> ReadResult
+    ensures { λ r.
+        ⌜ Reads (memory store (now (events .entry)) (now (ends .entry))) (now (log .entry)) r (now (events .exit)) (now (ends .exit)) ⌝ }
+{
+    let answer = answer(store, events, ends, log);
+    match answer {
+        ReadAnswer::Refused(_) => ReadResult { store, answer },
+        ReadAnswer::Added(added) => ReadResult {
+            store: append(store, events, ends, log, added),
+            answer,
+        },
+    }
 }
