@@ -21,8 +21,8 @@ use Rattle.discovery.specs.Claims.{Exactly}
 use Rattle.discovery.proofs.Listing.{exactly-one}
 use Rattle.discovery.proofs.Orderless.{count-alike, fulfilments-alike, support-alike, layout-alike}
 use Rattle.history.specs.Ledger.{Call, open-for, add, read, find, Shown, only, Ledger, after, with-all, onto}
-use Rattle.history.specs.Histories.{Called, History, first-ledger, after-all, Agrees, Keeps, FindIn, ledger-of, Right, Accepted, AlikeFinds, EqualFinds, Demand3}
-use Rattle.history.proofs.Replies.{sound-reply}
+use Rattle.history.specs.Histories.{Called, Fresh, History, first-ledger, after-all, Agrees, Never-1, Keeps, FindIn, ledger-of, Right, Accepted, AlikeFinds, EqualFinds, Demand3}
+use Rattle.history.proofs.Replies.{sound-reply, ledger-never-1}
 use Rattle.history.proofs.Steps.{fresh-keeps, Follows, count, last, open-follows, add-follows, find-shows, find-follows}
 use Rattle.history.proofs.Finds.{shows-right, right-gives}
 
@@ -84,12 +84,24 @@ history-follows space l m last k (c ∷ cs) (s ∷ ss) (m′, called, h) =
     let later = history-follows space (after space l c) m′ last (now .keeps) cs ss h in
     ((now .agrees, later .0), later .1)
 
+from-fresh :
+    (n : ℕ) (m last : Memory) (cs : List Call) (ss : List Shown) → Fresh n m → History m cs ss last →
+    Agrees (room m) (first-ledger n) cs ss × Keeps (room m) (after-all (room m) (first-ledger n) cs) last
+from-fresh n m last cs ss fresh = history-follows (room m) (first-ledger n) m last (fresh-keeps n m fresh) cs ss
+
+agrees-never-1 : (space : Room) (l : Ledger) (cs : List Call) (ss : List Shown) → Agrees space l cs ss → Never-1 ss
+agrees-never-1 space l [] [] a = tt
+agrees-never-1 space l [] (s ∷ ss) a = absurd a
+agrees-never-1 space l (c ∷ cs) [] a = absurd a
+agrees-never-1 space l (c ∷ cs) (s ∷ ss) ((place, free, shown), later) =
+    (λ detail e. ledger-never-1 place space l c detail (ap (λ s. s .said) (sym shown) ∙ e), agrees-never-1 space (after space l c) cs ss later)
+
 -- ## Finds
 
 found-right : (f : FindIn) → Right (ledger-of f) (f .threshold) (f .list) (f .shown)
 found-right f =
     let space = room (f .start) in
-    let k = history-follows space (first-ledger (f .n)) (f .start) (f .memory) (fresh-keeps (f .n) (f .start) (f .is-fresh)) (f .before) (f .shown-before) (f .history) .1 in
+    let k = from-fresh (f .n) (f .start) (f .memory) (f .before) (f .shown-before) (f .is-fresh) (f .history) .1 in
     let shown = find-shows space (ledger-of f) (f .memory) k (f .threshold) (f .list) (f .shown) (f .memory′) (f .called) in
     subst (λ (s : Shown). Right (ledger-of f) (f .threshold) (f .list) s) (sym shown) (shows-right space (ledger-of f) (f .threshold) (f .list))
 
@@ -125,8 +137,9 @@ found-alike f g (values, given) (values′, given′) alike =
 pub demand-3 : Demand3
 demand-3 =
     record {
-      agrees = λ n m last cs ss fresh h. history-follows (room m) (first-ledger n) m last (fresh-keeps n m fresh) cs ss h .0;
-      keeps = λ n m last cs ss fresh h. history-follows (room m) (first-ledger n) m last (fresh-keeps n m fresh) cs ss h .1;
+      agrees = λ n m last cs ss fresh h. from-fresh n m last cs ss fresh h .0;
+      never-1 = λ n m last cs ss fresh h. agrees-never-1 (room m) (first-ledger n) cs ss (from-fresh n m last cs ss fresh h .0);
+      keeps = λ n m last cs ss fresh h. from-fresh n m last cs ss fresh h .1;
       right = found-right;
       alike = found-alike;
     }

@@ -5,7 +5,7 @@ use mathlib.Core.Path.{_≡_}
 use mathlib.Core.Bool.{true, false}
 use mathlib.Core.List.{List, [], _∷_, _++_}
 use lib.ListN.{length, take, drop}
-use Rattle.eventlog.specs.Checks.{gives, reply, when-passed}
+use Rattle.eventlog.specs.Checks.{gives, refused, reply, when-passed}
 use Rattle.eventlog.specs.Store.{Memory, all-below, sound, kept}
 use Rattle.eventlog.specs.declared.OpenAnswer.{OpenAnswer}
 use Rattle.eventlog.specs.declared.AddResult.{AddResult}
@@ -74,6 +74,11 @@ Agrees room l [] (s ∷ ss) = ⊥
 Agrees room l (c ∷ cs) [] = ⊥
 Agrees room l (c ∷ cs) (s ∷ ss) =
     ((place : ℕ) × Free (l .activities) c place × (s ≡ shows place room l c)) × Agrees room (after room l c) cs ss
+
+-- no call is refused under number 1
+abbrev pub Never-1 : List Shown → Type 0
+Never-1 [] = Unit {0}
+Never-1 (s ∷ ss) = ((detail : ℕ) → s .said ≡ refused 1 detail → ⊥) × Never-1 ss
 
 -- the ledger's traces are those kept in a memory
 pub record Keeps (space : Room) (l : Ledger) (m : Memory) : Type 0 where
@@ -144,6 +149,8 @@ pub record Demand3 : Type 0 where
   pub agrees :
       (n : ℕ) (m last : Memory) (cs : List Call) (ss : List Shown) → Fresh n m → History m cs ss last →
       Agrees (room m) (first-ledger n) cs ss
+  pub never-1 :
+      (n : ℕ) (m last : Memory) (cs : List Call) (ss : List Shown) → Fresh n m → History m cs ss last → Never-1 ss
   pub keeps :
       (n : ℕ) (m last : Memory) (cs : List Call) (ss : List Shown) → Fresh n m → History m cs ss last →
       Keeps (room m) (after-all (room m) (first-ledger n) cs) last
