@@ -313,7 +313,13 @@ fn pass_all(store: Store, events: &[u8], ends: &[u32], threshold: u32, list: &mu
 }
 
 // Document 01's find. What is needed is known before the first number is written.
-fn find(store: Store, events: &[u8], ends: &[u32], threshold: u32, list: &mut [u16]) -> FindAnswer
+pub fn find(
+    store: Store,
+    events: &[u8],
+    ends: &[u32],
+    threshold: u32,
+    list: &mut [u16],
+) -> FindAnswer
     ensures { λ r. ⌜ Finds (memory store (now (events .entry)) (now (ends .entry))) threshold (now (list .entry)) r (now (list .exit)) ⌝ }
 {
     if !eventlog::is_sound(store, events, ends) {
