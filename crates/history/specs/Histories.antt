@@ -146,13 +146,18 @@ pub record EqualFinds (f g : FindIn) : Type 0 where
 
 -- Demand 3: one claim about all histories.
 pub record Demand3 : Type 0 where
+  -- every call is accepted, or refused under the same number and detail, as in the ledger, but for the free place in refusal 6 of add
   pub agrees :
       (n : ℕ) (m last : Memory) (cs : List Call) (ss : List Shown) → Fresh n m → History m cs ss last →
       Agrees (room m) (first-ledger n) cs ss
+  -- 1 never comes
   pub never-1 :
       (n : ℕ) (m last : Memory) (cs : List Call) (ss : List Shown) → Fresh n m → History m cs ss last → Never-1 ss
+  -- the ledger's traces are the kept ones
   pub keeps :
       (n : ℕ) (m last : Memory) (cs : List Call) (ss : List Shown) → Fresh n m → History m cs ss last →
       Keeps (room m) (after-all (room m) (first-ledger n) cs) last
+  -- every find gives the ledger's list and numbers, or is refused as the ledger says
   pub right : (f : FindIn) → Right (ledger-of f) (f .threshold) (f .list) (f .shown)
+  -- accepted finds that are alike give equal lists and numbers, in one history or in two
   pub alike : (f g : FindIn) → Accepted f → Accepted g → AlikeFinds f g → EqualFinds f g
