@@ -17,7 +17,7 @@ use Rattle.discovery.specs.declared.Constraint.{Constraint}
 use Rattle.discovery.specs.declared.Tally.{Tally}
 use Rattle.discovery.specs.Lists.{those, how-many, numbers-from, for-each}
 use Rattle.discovery.specs.Constraints.{pairs, trace-count, meets, fulfilments, survives, layout}
-use Rattle.discovery.specs.Passes.{Passes, is-listed, cell, row, grid}
+use Rattle.discovery.specs.Passes.{Passes, Within, is-listed, cell, row, grid}
 use Rattle.discovery.proofs.Pruning.{pruned-not-listed}
 use Rattle.discovery.proofs.Listing.{layout-length, for-each-append, how-many-at-most}
 
@@ -139,7 +139,7 @@ module _ (threshold : ℕ) (traces : List (List ℕ)) where
   -- no more are listed and replayed than there are
   pub passes-within :
       (cs : List Constraint) (k less most : ℕ) (t t′ : Tally) (list list′ : List ℕ) → length cs ≤ k → less + k ≤ most →
-      (t .listed ≤ less) × (t .replayed ≤ less) → Passes threshold traces cs t list t′ list′ → (t′ .listed ≤ most) × (t′ .replayed ≤ most)
+      Within less t → Passes threshold traces cs t list t′ list′ → Within most t′
   passes-within cs k less most t t′ list list′ few room low p =
       (omega (arith, p .listed, how-many-at-most (is-listed threshold traces) cs), omega (arith, p .replayed, how-many-at-most (survives threshold traces) cs))
 

@@ -1,6 +1,6 @@
 -- What the inner functions of find promise: replay of a constraint over the log, and what passing over constraints finds and writes.
 -- Assumes nothing.
-use Prim.Native.Nat.{ℕ, _+_, _*_}
+use Prim.Native.Nat.{ℕ, _+_, _*_, _≤_}
 use mathlib.Core.Path.{_≡_}
 use mathlib.Core.Bool.{Bool}
 use mathlib.Core.List.{List, [], _∷_}
@@ -33,6 +33,9 @@ is-listed threshold traces c = meets threshold (trace-count traces) (fulfilments
 
 abbrev pub none-yet : Tally
 none-yet = record { listed = 0; replayed = 0 }
+
+abbrev pub Within : ℕ → Tally → Type 0
+Within most t = (t .listed ≤ most) × (t .replayed ≤ most)
 
 -- passing over the constraints takes the tally and the slice to these: each listed one is written behind those before it
 pub record Passes (threshold : ℕ) (traces : List (List ℕ)) (cs : List Constraint) (t : Tally) (list : List ℕ) (t′ : Tally) (list′ : List ℕ) : Type 0 where

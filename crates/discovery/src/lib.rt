@@ -1,14 +1,16 @@
+// Discovery (document 01: finding) over a log of traces: pruning by class, replay of what is kept, and the list.
+ghost use Prim.Native.Nat.{_*_, _≤_};
 ghost use mathlib.Core.Path.{_≡_};
 ghost use mathlib.Core.Bool.{true};
-ghost use Rattle.declare.specs.Meaning.{occurs as occurs-in};
-ghost use Rattle.eventlog.specs.Store.{memory, sound, kept};
-ghost use Prim.Native.Nat.{_+_, _*_, _≤_, _<_};
+ghost use mathlib.Core.List.{[], _∷_};
 ghost use lib.ListN.{set};
 ghost use lib.Seq.{sets};
-ghost use mathlib.Core.List.{[], _∷_};
-ghost use Rattle.discovery.specs.Constraints.{class-of, counts-for, support as support-of, meets as meets-test, pairs as pairs-test, survives, constraints};
+ghost use Rattle.declare.specs.Meaning.{occurs as occurs-in};
+ghost use Rattle.eventlog.specs.Store.{memory, sound, kept};
+ghost use Rattle.discovery.specs.Constraints.{class-of, counts-for, support as support-of, survives, constraints};
+ghost use Rattle.discovery.specs.Constraints.{meets as meets-test, pairs as pairs-test};
 ghost use Rattle.discovery.specs.Calls.{Finds};
-ghost use Rattle.discovery.specs.Passes.{Replays, Passes, cell, row, grid, none-yet};
+ghost use Rattle.discovery.specs.Passes.{Replays, Passes, Within, cell, row, grid, none-yet};
 use declare::Verdict;
 use eventlog::Refusal;
 use eventlog::Store;
@@ -63,6 +65,7 @@ fn class_of(template: u8) -> Class
     }
 }
 
+// The scan stops at the first a.
 fn occurs(a: u8, trace: &[u8]) -> bool
     ensures { λ r. ⌜ r ≡ occurs-in a (now (trace .entry)) ⌝ }
 {
@@ -76,6 +79,7 @@ fn occurs(a: u8, trace: &[u8]) -> bool
     false
 }
 
+// Whether a trace counts for a class of pruning.
 fn counts_for(class: Class, a: u8, b: u8, trace: &[u8]) -> bool
     ensures { λ r. ⌜ r ≡ counts-for class a b (now (trace .entry)) ⌝ }
 {
@@ -93,16 +97,16 @@ fn support(store: Store, events: &[u8], ends: &[u32], c: Constraint) -> u32
     ensures { λ r. ⌜ r ≡ support-of (kept (memory store (now (events .entry)) (now (ends .entry)))) c ⌝ }
 {
     let class = class_of(c.template);
-    let traces = store.traces as usize;
+    let kept = store.traces as usize;
     let mut count: u32 = 0;
-    let mut from: usize = 0;
+    let mut start: usize = 0;
     let mut k: usize = 0;
-    while k < traces {
-        let to = ends[k] as usize;
-        if counts_for(class, c.a, c.b, &events[from..to]) {
+    while k < kept {
+        let end = ends[k] as usize;
+        if counts_for(class, c.a, c.b, &events[start..end]) {
             count += 1;
         }
-        from = to;
+        start = end;
         k += 1;
     }
     count
@@ -115,6 +119,7 @@ fn meets(threshold: u32, all: u32, number: u32) -> bool
     (threshold as u64) * (all as u64) <= 1000 * (number as u64)
 }
 
+// Whether there is a constraint of the template on a and b.
 fn pairs(template: u8, a: u8, b: u8) -> bool
     ensures { λ r. ⌜ r ≡ pairs-test template a b ⌝ }
 {
@@ -127,7 +132,7 @@ fn pairs(template: u8, a: u8, b: u8) -> bool
     a != b
 }
 
-// A number past the slice's end is dropped.
+// A number past the slice's end is dropped: the first pass of find is lent no numbers, and writes none.
 fn put(list: &mut [u16], at: usize, value: u16)
     ensures { λ _. ⌜ now (list .exit) ≡ set (now (list .entry)) at value ⌝ }
 {
@@ -148,7 +153,8 @@ fn write(list: &mut [u16], listed: u32, c: Constraint, count: u16)
     put(list, at + 3, count);
 }
 
-// Replays a constraint that pruning keeps over the log, each trace as a part of the events.
+// Replays a constraint over the log, each trace as the part of the events from the end before to its own. Only what pruning keeps
+// may be replayed: the second clause.
 fn replay(
     store: Store,
     events: &[u8],
@@ -183,7 +189,8 @@ fn replay(
     }
 }
 
-// One constraint: what pruning drops is not replayed, and what is replayed is written where its count meets the threshold.
+// Passes over one constraint: what pruning drops is not replayed, and what is replayed is written where its count meets the
+// threshold. Here and below the bounds leave room for all constraints to come, so that no number can wrap.
 fn consider(
     store: Store,
     events: &[u8],
@@ -194,7 +201,7 @@ fn consider(
     c: Constraint,
 ) -> Tally
     requires { ⌜ sound (memory store (now events) (now ends)) ≡ true ⌝ }
-    requires { ⌜ (tally .listed ≤ 40000) × (tally .replayed ≤ 40000) ⌝ }
+    requires { ⌜ Within 40000 tally ⌝ }
     ensures { λ r. ⌜ Passes threshold (kept (memory store (now (events .entry)) (now (ends .entry)))) (c ∷ []) tally (now (list .entry)) r (now (list .exit)) ⌝ }
 {
     let all = store.traces;
@@ -218,6 +225,7 @@ fn consider(
     }
 }
 
+// Passes over the constraint on a and b, if there is one.
 fn pass_cell(
     store: Store,
     events: &[u8],
@@ -230,7 +238,7 @@ fn pass_cell(
     b: u8,
 ) -> Tally
     requires { ⌜ sound (memory store (now events) (now ends)) ≡ true ⌝ }
-    requires { ⌜ (tally .listed ≤ 40000) × (tally .replayed ≤ 40000) ⌝ }
+    requires { ⌜ Within 40000 tally ⌝ }
     ensures { λ r. ⌜ Passes threshold (kept (memory store (now (events .entry)) (now (ends .entry)))) (cell template a b) tally (now (list .entry)) r (now (list .exit)) ⌝ }
 {
     if pairs(template, a, b) {
@@ -248,6 +256,7 @@ fn pass_cell(
     }
 }
 
+// Passes over the constraints on a and each b, in their order.
 fn pass_row(
     store: Store,
     events: &[u8],
@@ -259,7 +268,7 @@ fn pass_row(
     a: u8,
 ) -> Tally
     requires { ⌜ sound (memory store (now events) (now ends)) ≡ true ⌝ }
-    requires { ⌜ (tally .listed ≤ 39968) × (tally .replayed ≤ 39968) ⌝ }
+    requires { ⌜ Within 39968 tally ⌝ }
     ensures { λ r. ⌜ Passes threshold (kept (memory store (now (events .entry)) (now (ends .entry)))) (row (store .activities) template a) tally (now (list .entry)) r (now (list .exit)) ⌝ }
 {
     let n = store.activities as u8;
@@ -272,6 +281,7 @@ fn pass_row(
     found
 }
 
+// Passes over the constraints of a template, in their order.
 fn pass_grid(
     store: Store,
     events: &[u8],
@@ -282,7 +292,7 @@ fn pass_grid(
     template: u8,
 ) -> Tally
     requires { ⌜ sound (memory store (now events) (now ends)) ≡ true ⌝ }
-    requires { ⌜ (tally .listed ≤ 38944) × (tally .replayed ≤ 38944) ⌝ }
+    requires { ⌜ Within 38944 tally ⌝ }
     ensures { λ r. ⌜ Passes threshold (kept (memory store (now (events .entry)) (now (ends .entry)))) (grid (store .activities) template) tally (now (list .entry)) r (now (list .exit)) ⌝ }
 {
     let n = store.activities as u8;
@@ -295,7 +305,8 @@ fn pass_grid(
     found
 }
 
-// All constraints, by template, then a, then b: how many are listed and replayed, the list written as far as the slice goes.
+// Passes over all constraints, by template, then a, then b: counts those listed and replayed, and writes the list as far as the
+// slice goes.
 fn pass_all(store: Store, events: &[u8], ends: &[u32], threshold: u32, list: &mut [u16]) -> Tally
     requires { ⌜ sound (memory store (now events) (now ends)) ≡ true ⌝ }
     ensures { λ r. ⌜ Passes threshold (kept (memory store (now (events .entry)) (now (ends .entry)))) (constraints (store .activities)) none-yet (now (list .entry)) r (now (list .exit)) ⌝ }
@@ -312,7 +323,8 @@ fn pass_all(store: Store, events: &[u8], ends: &[u32], threshold: u32, list: &mu
     found
 }
 
-// Document 01's find. What is needed is known before the first number is written.
+// Document 01's find, over any record, buffers, threshold and slice. The first pass tells what is needed and writes nothing; the
+// second writes the list.
 pub fn find(
     store: Store,
     events: &[u8],

@@ -14,29 +14,29 @@ use Rattle.discovery.proofs.support.Statement.{statement}
 use Rattle.discovery.proofs.support.Tie as tie
 
 abbrev Inv-loop : tie.InvT-loop
-Inv-loop events ends c class traces count₀ from₀ k₀ count from k =
-    Walk (counts-for class (c .a) (c .b)) events ends traces count from k
+Inv-loop events ends c class traces count₀ start₀ k₀ count start k =
+    Walk (counts-for class (c .a) (c .b)) events ends traces count start k
 
 abbrev μ-loop : tie.MeasureT-loop
-μ-loop events ends c class traces count₀ from₀ k₀ count from k = traces - k
+μ-loop events ends c class traces count₀ start₀ k₀ count start k = traces - k
 
 class-of-requires : tie.Need-class-of-requires Inv-loop μ-loop
 class-of-requires c κs = search needs
 
-cast-traces : tie.Need-cast-traces Inv-loop μ-loop
-cast-traces c = omega (arith, c .struct-known .given)
+cast-kept : tie.Need-cast-kept Inv-loop μ-loop
+cast-kept c = omega (arith, c .struct-known .given)
 
 loop-holds : tie.Need-loop-holds Inv-loop μ-loop
 loop-holds c = walk-start _ _ (c .before .before .before .before .pre)
 
-mul-to : tie.Need-mul-to Inv-loop μ-loop
-mul-to c = omega arith
+mul-end : tie.Need-mul-end Inv-loop μ-loop
+mul-end c = omega arith
 
-shared-slice-read-to : tie.Need-shared-slice-read-to Inv-loop μ-loop
-shared-slice-read-to c = omega arith
+shared-slice-read-end : tie.Need-shared-slice-read-end Inv-loop μ-loop
+shared-slice-read-end c = omega arith
 
-cast-to : tie.Need-cast-to Inv-loop μ-loop
-cast-to c = omega (arith, c .shared-slice-known3 .given (c .before .before .loop .k))
+cast-end : tie.Need-cast-end Inv-loop μ-loop
+cast-end c = omega (arith, c .shared-slice-known3 .given (c .before .before .loop .k))
 
 sub-counts-for : tie.Need-sub-counts-for Inv-loop μ-loop
 sub-counts-for c = starts-before _ _ _ _ _ _ _ (c .before .before .loop .inv) (c .before .loop-test .taken)
@@ -78,11 +78,11 @@ support-spec =
     Inv-loop
     μ-loop
     class-of-requires
-    cast-traces
+    cast-kept
     loop-holds
-    mul-to
-    shared-slice-read-to
-    cast-to
+    mul-end
+    shared-slice-read-end
+    cast-end
     sub-counts-for
     part-counts-for-start
     part-counts-for-end
