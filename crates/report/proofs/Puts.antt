@@ -2,10 +2,10 @@
 -- Assumes nothing.
 use Prim.Native.Nat.{ℕ, zero, suc, _+_, _*_}
 use native.Mathlib.Omega.{arith}
-use mathlib.Core.Path.{_≡_, sym, ap, _∙_}
+use mathlib.Core.Path.{_≡_, refl, sym, ap, _∙_}
 use mathlib.Core.List.{List, _++_, append-nil, append-assoc}
-use lib.ListN.{drop, length-append}
-use lib.Seq.{getD-drop}
+use lib.ListN.{length, drop, length-append}
+use lib.Seq.{length-sets, getD-drop}
 use Rattle.report.specs.Puts.{Puts, line-at, lines-of}
 use Rattle.report.proofs.Stores.{sets-append}
 
@@ -15,8 +15,21 @@ pub put-then :
 put-then {out = out} {xs = xs} {ys = ys} {at = at} p q =
     record {
       sized = length-append xs ys ∙ (cc (p .sized, q .sized));
+      within = omega (arith, p .within, q .within, p .follows, ap length (p .stores), length-sets out at xs);
       follows = omega (arith, p .follows, q .follows);
       stores = q .stores ∙ rw (p .stores, p .follows, ← (p .sized)) (sym (sets-append xs ys out at));
+    }
+
+-- the same text, its size said by its length
+pub put-same :
+    {out out′ text text′ : List ℕ} {at size next : ℕ} → text ≡ text′ → Puts out at size text next out′ →
+    Puts out at (length text′) text′ next out′
+put-same {at = at} e p =
+    record {
+      sized = refl;
+      within = omega (arith, p .within, p .sized, ap length e);
+      follows = omega (arith, p .follows, p .sized, ap length e);
+      stores = rw e at (p .stores);
     }
 
 -- ## Lines of a list

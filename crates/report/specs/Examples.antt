@@ -8,7 +8,7 @@ use Rattle.columns.specs.Field.{spell}
 use Rattle.columns.specs.Log.{lines, log-checks, spelled}
 use Rattle.discovery.specs.Constraints.{constraints, fulfilments, support, listed, replayed}
 use Rattle.report.specs.Print.{refusal-line, first-line, constraint-line, found-text}
-use Rattle.report.specs.Report.{settings-laid-out, activities-set, threshold-set, checks-to-read, checks-of-report, output-of}
+use Rattle.report.specs.Report.{settings-laid-out, activities-set, threshold-set, lent-list, checks-to-read, checks-of-report, output-of}
 
 pub sample : List ℕ
 sample =
@@ -38,7 +38,7 @@ sample-printed =
 
 pub sample-prints : output-of sample ≡ sample-printed
 unfolding
-    sample sample-printed output-of checks-of-report checks-to-read settings-laid-out activities-set threshold-set found-text
+    sample sample-printed lent-list output-of checks-of-report checks-to-read settings-laid-out activities-set threshold-set found-text
     first-line constraint-line refusal-line spell lines log-checks spelled constraints fulfilments support listed replayed
     fulfilled activated holds meanings
 sample-prints = refl

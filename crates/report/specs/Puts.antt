@@ -1,6 +1,6 @@
 -- What the functions that write text promise each other.
 -- Assumes nothing.
-use Prim.Native.Nat.{ℕ, zero, suc, _+_, _*_}
+use Prim.Native.Nat.{ℕ, zero, suc, _+_, _*_, _≤_}
 use mathlib.Core.Path.{_≡_}
 use mathlib.Core.List.{List, [], _++_}
 use lib.ListN.{length, getD, drop}
@@ -10,6 +10,7 @@ use Rattle.report.specs.Print.{constraint-line}
 -- `text`, of this size, is put at a place of `out`, and the place after it handed back
 pub record Puts (out : List ℕ) (at size : ℕ) (text : List ℕ) (next : ℕ) (out′ : List ℕ) : Type 0 where
   pub sized : length text ≡ size
+  pub within : at + size ≤ length out
   pub follows : next ≡ at + size
   pub stores : out′ ≡ sets out at text
 

@@ -30,6 +30,10 @@ lent-ends = 4095
 abbrev pub lent-constraints : ℕ
 lent-constraints = 8000
 
+-- a slice as long as the one lent for the list, four numbers a constraint; find's checks look at its length alone
+unfoldable pub lent-list : List ℕ
+lent-list = replicate (4 * lent-constraints) 0
+
 -- ## The input: a settings line, then a log
 
 -- N in columns 1 to 3, threshold in 4 to 7, line feed; fields as in the log
@@ -68,7 +72,7 @@ unfoldable pub checks-of-report : List ℕ → List Check
 unfolding checks-to-read
 checks-of-report input =
     checks-to-read input
-    ++ find-checks (activities-set input) (spelled (log-of input)) (threshold-set input) (replicate (4 * lent-constraints) 0)
+    ++ find-checks (activities-set input) (spelled (log-of input)) (threshold-set input) lent-list
 
 -- ## The output
 

@@ -1,15 +1,34 @@
 // All that findrules does between its input and its output.
 use columns::Field;
+use columns::ReadAnswer;
+use discovery::FindAnswer;
+use discovery::Found;
+use eventlog::OpenAnswer;
+use eventlog::Refusal;
+use eventlog::Store;
 ghost use mathlib.Core.Path.{_≡_};
 ghost use mathlib.Core.List.{[], _∷_, _++_};
-ghost use Prim.Native.Nat.{ℕ, _+_, _*_, _≤_, _<_};
+ghost use Prim.Native.Nat.{_+_, _*_, _≤_};
 ghost use lib.Dec.{leb};
-ghost use lib.ListN.{length, getD, drop, replicate};
+ghost use lib.ListN.{length, replicate};
 ghost use Rattle.declare.specs.Logic.{if_then_else_};
+ghost use Rattle.eventlog.specs.Store.{memory};
+ghost use Rattle.eventlog.specs.Calls.{open-checks};
 ghost use Rattle.columns.specs.Field.{blank, line-feed, spell};
+ghost use Rattle.columns.specs.Log.{log-checks};
 ghost use Rattle.report.specs.Print.{column-of, refusal-line, first-line, constraint-line};
-ghost use Rattle.report.specs.Steps.{both-set, settings-of};
+ghost use Rattle.report.specs.Report.{threshold-check, onto-empty, Reports};
 ghost use Rattle.report.specs.Puts.{Puts, line-at, lines-of};
+ghost use Rattle.report.specs.Steps.{both-set, settings-of, PrintsFind, Prints, checks-of-log, checks-of-set};
+
+// What findrules lends: events, ends, a list of 8000 constraints of four numbers, and their lines of 14 bytes with the first line's 19.
+const EVENTS: usize = 6552;
+
+const ENDS: usize = 4095;
+
+const LIST: usize = 32000;
+
+const OUT: usize = 112019;
 
 fn wide(x: u16) -> usize
     ensures { λ r. ⌜ r ≡ x ⌝ }
@@ -154,4 +173,149 @@ fn read_settings(input: &[u8]) -> Settings
     let n = columns::read_field(&input[..3]);
     let threshold = columns::read_field(&input[3..7]);
     both_set(n, threshold)
+}
+
+fn print_found(found: Found, list: &[u16], out: &mut [u8]) -> usize
+    requires { ⌜ (4 * found .constraints ≤ length (now list)) × (19 + 14 * found .constraints ≤ length (now out)) ⌝ }
+    ensures { λ r. ⌜ Puts (now (out .entry)) 0 (19 + 14 * found .constraints)
+        (first-line (found .constraints) (found .replayed) (found .traces) ++ lines-of (found .constraints) (now (list .entry)))
+        r (now (out .exit)) ⌝ }
+{
+    let constraints = found.constraints as usize;
+    let at = put_first(
+        out,
+        constraints,
+        found.replayed as usize,
+        found.traces as usize,
+    );
+    put_list(out, at, list, constraints)
+}
+
+fn print_refusal(refusal: Refusal, out: &mut [u8]) -> usize
+    requires { ⌜ 9 ≤ length (now out) ⌝ }
+    ensures { λ r. ⌜ Puts (now (out .entry)) 0 9 (refusal-line (refusal .number) (refusal .detail)) r (now (out .exit)) ⌝ }
+{
+    refuse(out, refusal.number as usize, refusal.detail)
+}
+
+fn find_and_print(
+    store: Store,
+    events: &[u8],
+    ends: &[u32],
+    threshold: u32,
+    list: &mut [u16; LIST],
+    out: &mut [u8; OUT],
+) -> usize
+    ensures { λ r. ⌜ PrintsFind (memory store (now (events .entry)) (now (ends .entry))) threshold (now (list .entry)) (now (out .entry))
+        r (now (list .exit)) (now (out .exit)) ⌝ }
+{
+    match discovery::find(store, events, ends, threshold, list) {
+        FindAnswer::Listed(found) => print_found(found, list, out),
+        FindAnswer::Refused(refusal) => print_refusal(refusal, out),
+    }
+}
+
+// The log is read onto an empty one.
+fn read_and_print(
+    store: Store,
+    threshold: u32,
+    log: &[u8],
+    events: &mut [u8; EVENTS],
+    ends: &mut [u32; ENDS],
+    list: &mut [u16; LIST],
+    out: &mut [u8; OUT],
+) -> usize
+    requires { ⌜ (1 ≤ store .activities) × (store .activities ≤ 32) × (store .traces ≡ 0) ⌝ }
+    ensures { λ r. ⌜ Prints (log-checks (onto-empty (store .activities)) (now (log .entry))) (checks-of-log (store .activities) threshold (now (log .entry)))
+        (store .activities) threshold
+        (now (log .entry)) (now (events .entry)) (now (ends .entry)) (now (list .entry)) (now (out .entry))
+        r (now (events .exit)) (now (ends .exit)) (now (list .exit)) (now (out .exit)) ⌝ }
+{
+    let result = columns::read(store, events, ends, log);
+    let after = result.store;
+    let answer = result.answer;
+    match answer {
+        ReadAnswer::Added(_) => find_and_print(after, events, ends, threshold, list, out),
+        ReadAnswer::Refused(refusal) => print_refusal(refusal, out),
+    }
+}
+
+fn check_threshold_and_print(
+    store: Store,
+    threshold: u32,
+    log: &[u8],
+    events: &mut [u8; EVENTS],
+    ends: &mut [u32; ENDS],
+    list: &mut [u16; LIST],
+    out: &mut [u8; OUT],
+) -> usize
+    requires { ⌜ (1 ≤ store .activities) × (store .activities ≤ 32) × (store .traces ≡ 0) ⌝ }
+    ensures { λ r. ⌜ Prints (threshold-check threshold ∷ log-checks (onto-empty (store .activities)) (now (log .entry))) (threshold-check threshold ∷ checks-of-log (store .activities) threshold (now (log .entry)))
+        (store .activities) threshold
+        (now (log .entry)) (now (events .entry)) (now (ends .entry)) (now (list .entry)) (now (out .entry))
+        r (now (events .exit)) (now (ends .exit)) (now (list .exit)) (now (out .exit)) ⌝ }
+{
+    if threshold < 1 {
+        return refuse(out, 3, 0);
+    }
+    if 1000 < threshold {
+        return refuse(out, 3, 0);
+    }
+    read_and_print(store, threshold, log, events, ends, list, out)
+}
+
+fn open_and_print(
+    n: u32,
+    threshold: u32,
+    log: &[u8],
+    events: &mut [u8; EVENTS],
+    ends: &mut [u32; ENDS],
+    list: &mut [u16; LIST],
+    out: &mut [u8; OUT],
+) -> usize
+    ensures { λ r. ⌜ Prints (open-checks n ++ threshold-check threshold ∷ log-checks (onto-empty n) (now (log .entry))) (checks-of-set n threshold (now (log .entry)))
+        n threshold
+        (now (log .entry)) (now (events .entry)) (now (ends .entry)) (now (list .entry)) (now (out .entry))
+        r (now (events .exit)) (now (ends .exit)) (now (list .exit)) (now (out .exit)) ⌝ }
+{
+    match eventlog::open(n) {
+        OpenAnswer::Opened(store) => check_threshold_and_print(
+            store,
+            threshold,
+            log,
+            events,
+            ends,
+            list,
+            out,
+        ),
+        OpenAnswer::Refused(refusal) => print_refusal(refusal, out),
+    }
+}
+
+// What findrules prints for its input, into out; how many bytes that is.
+pub fn report(
+    input: &[u8],
+    events: &mut [u8; EVENTS],
+    ends: &mut [u32; ENDS],
+    list: &mut [u16; LIST],
+    out: &mut [u8; OUT],
+) -> usize
+    ensures { λ r. ⌜ Reports (now (input .entry)) (now (events .entry)) (now (ends .entry)) (now (list .entry)) (now (out .entry))
+        r (now (events .exit)) (now (ends .exit)) (now (list .exit)) (now (out .exit)) ⌝ }
+{
+    if 65536 < input.len() {
+        return refuse(out, 12, 0);
+    }
+    match read_settings(input) {
+        Settings::Set(n, threshold) => open_and_print(
+            n,
+            threshold,
+            &input[8..],
+            events,
+            ends,
+            list,
+            out,
+        ),
+        Settings::Malformed => refuse(out, 4, 0),
+    }
 }

@@ -78,6 +78,7 @@ returns c =
     let none : c .before .loop .left ≡ 0 = omega arith in
     record {
       sized = length-spell (args .width) (args .n);
+      within = omega arith;
       follows = refl;
       stores = (rw none at (c .before .loop .inv .makes)) ∙ digit-stored (now (args .out)) (args .at) (args .width) (args .n) (omega arith);
     }

@@ -19,7 +19,7 @@ abbrev μ-loop : tie.MeasureT-loop
 μ-loop out₀ at list count next₀ k₀ out next k = count - k
 
 loop-holds : tie.Need-loop-holds Inv-loop μ-loop
-loop-holds c = (omega arith, refl, record { sized = refl; follows = omega arith; stores = refl })
+loop-holds c = (omega arith, refl, record { sized = refl; within = omega arith; follows = omega arith; stores = refl })
 
 put-nth-requires : tie.Need-put-nth-requires Inv-loop μ-loop
 put-nth-requires c κs = omega arith

@@ -32,7 +32,7 @@ same-length c = simp length-set
 
 returns : tie.Need-returns
 returns c =
-    simp (le-leb _ _ (c .if1 .taken)) (record { sized = refl; follows = refl; stores = simp towards-suc })
+    simp (le-leb _ _ (c .if1 .taken)) (record { sized = refl; within = omega arith; follows = refl; stores = simp towards-suc })
 
 put-field-requires : tie.Need-put-field-requires
 put-field-requires c κs = search needs
