@@ -96,7 +96,7 @@ spell-short width n h =
 
 -- ## What is spelled is a field with that value
 
-digit-is : (d : ℕ) → is-digit d ≡ true → (48 ≤ d) × (d ≤ 57)
+pub digit-is : (d : ℕ) → is-digit d ≡ true → (48 ≤ d) × (d ≤ 57)
 digit-is d e = (leb-true 48 d (and-left (leb 48 d) (leb d 57) e), leb-true d 57 (and-right (leb 48 d) (leb d 57) e))
 
 is-a-digit : (d : ℕ) → 48 ≤ d → d ≤ 57 → is-digit d ≡ true

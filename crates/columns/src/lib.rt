@@ -1,17 +1,16 @@
 use eventlog::Refusal;
 use eventlog::Store;
 ghost use Prim.Native.Nat.{_+_, _≤_, _<_};
-ghost use lib.ListN.{length, take, drop};
 ghost use mathlib.Core.Path.{_≡_};
-ghost use Rattle.columns.specs.Field.{field-of};
 ghost use mathlib.Core.List.{_∷_, []};
-ghost use mathlib.Core.Bool.{true};
+ghost use lib.ListN.{length, take, drop};
 ghost use Rattle.eventlog.specs.Checks.{gives, reply};
-ghost use Rattle.eventlog.specs.Store.{memory, sound};
-ghost use Rattle.columns.specs.Calls.{onto, checks-of-read, with-traces, read-said, Reads};
+ghost use Rattle.eventlog.specs.Store.{memory};
+ghost use Rattle.columns.specs.Field.{is-digit, field-of};
+ghost use Rattle.columns.specs.Scan.{scan-byte, finish, so-far};
 ghost use Rattle.columns.specs.Log.{line-of, lines, spelled};
 ghost use Rattle.columns.specs.Survey.{limits-of, at-start, entry-of, Within, full-of, unplaced-of, fault-of, next-of, step-of, survey-of, accepted, moved, noted, Notable, recorded, buffers};
-ghost use Rattle.columns.specs.Scan.{scan-byte, finish, so-far};
+ghost use Rattle.columns.specs.Calls.{onto, checks-of-read, with-traces, read-said, Reads};
 
 pub enum ReadAnswer {
     Added(u32),
@@ -36,22 +35,30 @@ enum Scan {
     Broken,
 }
 
-// A digit that ends the blanks. Zero is one digit, so nothing may follow it.
+fn is_digit(byte: u8) -> bool
+    ensures { λ r. ⌜ r ≡ is-digit byte ⌝ }
+{
+    if byte < 48 {
+        return false;
+    }
+    byte <= 57
+}
+
+// A column behind blanks alone.
 fn first_column(byte: u8) -> Scan
     ensures { λ r. ⌜ r ≡ scan-byte Scan.Blanks byte ⌝ }
 {
     if byte == 32 {
         return Scan::Blanks;
     }
-    if byte < 48 {
-        return Scan::Broken;
+    if is_digit(byte) {
+        Scan::Digits((byte - 48) as u32)
+    } else {
+        Scan::Broken
     }
-    if 57 < byte {
-        return Scan::Broken;
-    }
-    Scan::Digits((byte - 48) as u32)
 }
 
+// A column behind digits. Zero is one digit, so nothing may follow it.
 fn next_column(value: u32, byte: u8) -> Scan
     requires { ⌜ value < 100000000 ⌝ }
     ensures { λ r. ⌜ r ≡ scan-byte (Scan.Digits value) byte ⌝ }
@@ -59,13 +66,11 @@ fn next_column(value: u32, byte: u8) -> Scan
     if value == 0 {
         return Scan::Broken;
     }
-    if byte < 48 {
-        return Scan::Broken;
+    if is_digit(byte) {
+        Scan::Digits(value * 10 + (byte - 48) as u32)
+    } else {
+        Scan::Broken
     }
-    if 57 < byte {
-        return Scan::Broken;
-    }
-    Scan::Digits(value * 10 + (byte - 48) as u32)
 }
 
 fn column(scan: Scan, byte: u8) -> Scan
@@ -218,7 +223,7 @@ fn next(p: Progress, number: u32) -> Progress
     requires { ⌜ (p .added < 4096) × (p .last ≤ 16773120) × (number ≡ p .number → 1 ≤ p .left) ⌝ }
     ensures { λ r. ⌜ r ≡ next-of p number ⌝ }
 {
-    if number == p.number {
+    if p.number == number {
         return Progress {
             number,
             left: p.left - 1,

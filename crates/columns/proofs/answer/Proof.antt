@@ -2,7 +2,7 @@
 -- Assumes nothing.
 use mathlib.Core.Path.{_≡_, sym, ap, _∙_}
 use borrow.Author.Tests.{not-true, not-false}
-use Rattle.eventlog.specs.Store.{memory}
+use Rattle.eventlog.specs.Store.{Memory, memory}
 use Rattle.columns.specs.Log.{lines}
 use Rattle.columns.specs.Survey.{survey-of, limits-of, at-start}
 use Rattle.columns.specs.Calls.{onto, read-said}
@@ -12,12 +12,17 @@ use borrow.Author.Needs.{needs}
 use Rattle.columns.proofs.answer.Statement.{statement}
 use Rattle.columns.proofs.answer.Tie as tie
 
+-- the memory that came in
+abbrev old : tie.Start → Memory
+old s = memory (s .args .store) (s .args .events .now) (s .args .ends .now)
+
 is-sound-requires : tie.Need-is-sound-requires
 is-sound-requires c κs = search needs
 
 returns : tie.Need-returns
 returns c =
-    unsound-replied (memory (c .before .before .before .before .before .args .store) (c .before .before .before .before .before .args .events .now) (c .before .before .before .before .before .args .ends .now)) (c .before .before .before .before .before .args .log .now) (sym (c .before .is-sound .ensures) ∙ not-true _ (c .if1 .taken))
+    let s = c .before .before .before .before .before in
+    unsound-replied (old s) (s .args .log .now) (sym (c .before .is-sound .ensures) ∙ not-true _ (c .if1 .taken))
 
 limits-in-requires : tie.Need-limits-in-requires
 limits-in-requires c κs = search needs
@@ -27,11 +32,12 @@ start-in-requires c κs = search needs
 
 survey-requires : tie.Need-survey-requires
 survey-requires c κs =
-    rw (c .before .limits-in .ensures, c .start-in .ensures) (within-start (memory (c .before .before .before .before .before .before .before .args .store) (c .before .before .before .before .before .before .before .args .events .now) (c .before .before .before .before .before .before .before .args .ends .now)) (sym (c .before .before .before .is-sound .ensures) ∙ not-false _ (c .before .before .if1 .left)))
+    rw (c .before .limits-in .ensures, c .start-in .ensures)
+    (within-start (old (c .before .before .before .before .before .before .before)) (sym (c .before .before .before .is-sound .ensures) ∙ not-false _ (c .before .before .if1 .left)))
 
 returns-2 : tie.Need-returns-2
 returns-2 c =
-    let m = memory (c .before .before .before .before .before .before .before .before .args .store) (c .before .before .before .before .before .before .before .before .args .events .now) (c .before .before .before .before .before .before .before .before .args .ends .now) in
+    let m = old (c .before .before .before .before .before .before .before .before) in
     let log = c .before .before .before .before .before .before .before .before .args .log .now in
     let same : c .survey .result ≡ survey-of (limits-of (onto m)) (at-start (onto m)) 1 (lines log) =
     c .survey .ensures ∙ rw (c .before .before .limits-in .ensures, c .before .start-in .ensures) in

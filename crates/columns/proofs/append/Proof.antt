@@ -2,7 +2,7 @@
 -- Assumes nothing.
 use mathlib.Core.Path.{_≡_, refl, _∙_}
 use native.Mathlib.Omega.{arith}
-use Rattle.eventlog.specs.Store.{memory}
+use Rattle.eventlog.specs.Store.{Memory, memory}
 use Rattle.eventlog.proofs.Laws.{sound-facts}
 use Rattle.columns.specs.Survey.{buffers}
 use Rattle.columns.proofs.Laws.{within-start}
@@ -10,6 +10,10 @@ use Rattle.columns.proofs.Reading.{counted, few-added, appended}
 use borrow.Author.Needs.{needs}
 use Rattle.columns.proofs.append.Statement.{statement}
 use Rattle.columns.proofs.append.Tie as tie
+
+-- the memory that came in
+abbrev old : tie.Start → Memory
+old s = memory (s .args .store) (s .args .events .now) (s .args .ends .now)
 
 limits-in-requires : tie.Need-limits-in-requires
 limits-in-requires c κs = search needs
@@ -19,14 +23,15 @@ start-in-requires c κs = search needs
 
 record-requires : tie.Need-record-requires
 record-requires c κs =
-    let m = memory (c .before .before .before .before .before .before .before .before .before .before .before .args .store) (c .before .before .before .before .before .before .before .before .before .before .before .args .events .now) (c .before .before .before .before .before .before .before .before .before .before .before .args .ends .now) in
-    let k = counted m (c .before .before .before .before .before .before .before .before .before .before .before .args .log .now) _ (c .before .before .before .before .before .before .before .before .before .before .before .pre) in
+    let s = c .before .before .before .before .before .before .before .before .before .before .before in
+    let k = counted (old s) (s .args .log .now) _ (s .pre) in
     rw (c .before .before .before .before .before .limits-in .ensures, c .before .before .start-in .ensures)
-    (within-start m (k .is-sound), ((sound-facts m (k .is-sound) .few-activities, refl, refl), k .passes))
+    (within-start (old s) (k .is-sound), ((sound-facts (old s) (k .is-sound) .few-activities, refl, refl), k .passes))
 
 add-t21 : tie.Need-add-t21
 add-t21 c =
-    omega (arith, few-added (memory (c .before .before .before .before .before .before .before .before .before .before .before .before .before .before .before .before .before .args .store) (c .before .before .before .before .before .before .before .before .before .before .before .before .before .before .before .before .before .args .events .now) (c .before .before .before .before .before .before .before .before .before .before .before .before .before .before .before .before .before .args .ends .now)) (c .before .before .before .before .before .before .before .before .before .before .before .before .before .before .before .before .before .args .log .now) _ (c .before .before .before .before .before .before .before .before .before .before .before .before .before .before .before .before .before .pre))
+    let s = c .before .before .before .before .before .before .before .before .before .before .before .before .before .before .before .before .before in
+    omega (arith, few-added (old s) (s .args .log .now) _ (s .pre))
 
 same-length : tie.Need-same-length
 same-length c = search needs
@@ -36,9 +41,9 @@ same-length-2 c = search needs
 
 returns : tie.Need-returns
 returns c =
-    let m = memory (c .before .before .before .before .before .before .before .before .before .before .before .before .before .before .before .before .before .args .store) (c .before .before .before .before .before .before .before .before .before .before .before .before .before .before .before .before .before .args .events .now) (c .before .before .before .before .before .before .before .before .before .before .before .before .before .before .before .before .before .args .ends .now) in
+    let s = c .before .before .before .before .before .before .before .before .before .before .before .before .before .before .before .before .before in
     let called = c .before .before .before .before .before .«record» in
-    appended m (c .before .before .before .before .before .before .before .before .before .before .before .before .before .before .before .before .before .args .log .now) _ (buffers (called .last .1 .1 .0) (called .last .1 .1 .1 .0)) (c .before .before .before .before .before .before .before .before .before .before .before .before .before .before .before .before .before .pre)
+    appended (old s) (s .args .log .now) _ (buffers (called .last .1 .1 .0) (called .last .1 .1 .1 .0)) (s .pre)
     (called .ensures ∙ rw (c .before .before .before .before .before .before .before .before .before .before .before .limits-in .ensures, c .before .before .before .before .before .before .before .before .start-in .ensures))
 
 pub append-spec : {M : Type 1} → statement M

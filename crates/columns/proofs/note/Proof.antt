@@ -1,5 +1,6 @@
 -- `note` meets its contract: the event and the end go where the numbers say.
 -- Assumes nothing.
+use Prim.Native.Nat.{ℕ}
 use mathlib.Core.Path.{_≡_, refl}
 use native.Mathlib.Omega.{arith}
 use Rattle.columns.specs.Survey.{Placed, buffers}
@@ -7,11 +8,12 @@ use borrow.Author.Needs.{needs}
 use Rattle.columns.proofs.note.Statement.{statement}
 use Rattle.columns.proofs.note.Tie as tie
 
--- what the line's event requires, once its case is known
-placed-at :
-    (c : tie.After-struct-known2) →
-    Placed (c .before .before .before .before .before .before .before .before .args .traces) (c .before .before .before .before .before .before .before .before .args .p) (c .before .before .before .before .entry .given .0 .0) (c .before .before .before .before .entry .given .0 .1 .0) (buffers (c .before .before .before .before .before .before .before .before .args .events .now) (c .before .before .before .before .before .before .before .before .args .ends .now))
-placed-at c = rw (c .before .before .before .before .entry .given .1) at (c .before .before .before .before .before .before .before .before .pre)
+-- what the line's event requires
+abbrev Needed : (s : tie.Start) (number activity : ℕ) → Type 0
+Needed s number activity = Placed (s .args .traces) (s .args .p) number activity (buffers (s .args .events .now) (s .args .ends .now))
+
+placed-at : (c : tie.After-known-told) → Needed (c .before .before .before .before .before) (c .before .entry .given .0 .0) (c .before .entry .given .0 .1 .0)
+placed-at c = rw (c .before .entry .given .1) at (c .before .before .before .before .before .pre)
 
 enum-told : tie.Need-enum-told
 enum-told c = search needs
@@ -21,33 +23,32 @@ enum-known-entry c = search needs
 
 next-requires : tie.Need-next-requires
 next-requires c κs =
-    let h : Placed (c .before .before .before .before .before .args .traces) (c .before .before .before .before .before .args .p) (c .before .entry .given .0 .0) (c .before .entry .given .0 .1 .0) (buffers (c .before .before .before .before .before .args .events .now) (c .before .before .before .before .before .args .ends .now)) =
-    rw (c .before .entry .given .1) at (c .before .before .before .before .before .pre) in
+    let h = placed-at c in
     (omega (arith, h .few), h .reach, h .goes-on)
 
 cast-event : tie.Need-cast-event
 cast-event c = search needs
 
 add-end : tie.Need-add-end
-add-end c = rw (c .before .before .next .ensures) (omega (arith, placed-at c .few-after))
+add-end c = rw (c .before .before .next .ensures) (omega (arith, placed-at (c .before .before .before) .few-after))
 
 sub-end : tie.Need-sub-end
-sub-end c = rw (c .before .before .next .ensures) (placed-at c .some-trace)
+sub-end c = rw (c .before .before .next .ensures) (placed-at (c .before .before .before) .some-trace)
 
 cast-end : tie.Need-cast-end
 cast-end c = search needs
 
 cast-events : tie.Need-cast-events
-cast-events c = omega (arith, placed-at c .byte)
+cast-events c = omega (arith, placed-at (c .before .before .before) .byte)
 
 slice-write-events : tie.Need-slice-write-events
-slice-write-events c = placed-at c .has-event
+slice-write-events c = placed-at (c .before .before .before) .has-event
 
 mul-ends : tie.Need-mul-ends
 mul-ends c = search needs
 
 slice-write-ends : tie.Need-slice-write-ends
-slice-write-ends c = rw (c .before .before .next .ensures) (omega (arith, placed-at c .has-end, placed-at c .some-trace))
+slice-write-ends c = rw (c .before .before .next .ensures) (omega (arith, placed-at (c .before .before .before) .has-end, placed-at (c .before .before .before) .some-trace))
 
 returns : tie.Need-returns
 returns c = rw (c .enum-told .given .1) (refl, refl)
