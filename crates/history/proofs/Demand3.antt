@@ -1,7 +1,7 @@
 -- Demand 3: one theorem about all histories. Each call is known by its contract's record alone.
 -- Assumes nothing.
 use Prim.Native.Nat.{ℕ, _*_}
-use mathlib.Core.Path.{_≡_, sym, ap, subst, subst₂, transport, _∙_}
+use mathlib.Core.Path.{_≡_, refl, sym, ap, subst, subst₂, transport, _∙_}
 use mathlib.Core.List.{List, [], _∷_, _++_}
 use lib.ListN.{length, take}
 use Rattle.eventlog.specs.Checks.{gives, reply, when-passed}
@@ -132,6 +132,57 @@ found-alike f g (values, given) (values′, given′) alike =
           a .front ∙ layout-alike (l .traces) (l′ .traces) (alike .traces) (r .listed)
           ∙ sym (subst (λ (cs : List Constraint). take (4 * length cs) (g .shown .list) ≡ layout (l′ .traces) cs) same-listed (b .front));
     }
+
+-- ## Every find of a history is one of those finds
+
+-- A history cut after some of its calls.
+pub record Cut (m : Memory) (cs ds : List Call) (ss : List Shown) (last : Memory) : Type 0 where
+  pub front : List Shown
+  pub back : List Shown
+  pub middle : Memory
+  pub whole : ss ≡ front ++ back
+  pub first : History m cs front middle
+  pub second : History middle ds back last
+
+pub cut-after : (m last : Memory) (cs ds : List Call) (ss : List Shown) → History m (cs ++ ds) ss last → Cut m cs ds ss last
+cut-after m last [] ds ss h = record { front = []; back = ss; middle = m; whole = refl; first = refl; second = h }
+cut-after m last (c ∷ cs) ds [] h = absurd h
+cut-after m last (c ∷ cs) ds (s ∷ ss) (m′, called, h) =
+    let k = cut-after m′ last cs ds ss h in
+    record {
+      front = s ∷ k .front;
+      back = k .back;
+      middle = k .middle;
+      whole = ap (λ l. s ∷ l) (k .whole);
+      first = (m′, called, k .first);
+      second = k .second;
+    }
+
+pub find-at :
+    (n : ℕ) (m last : Memory) (before later : List Call) (threshold : ℕ) (list : List ℕ) (ss : List Shown) → Fresh n m →
+    History m (before ++ (find threshold list ∷ later)) ss last → FindIn
+find-at n m last before later threshold list ss fresh h = go (cut .back) (cut .second)
+  where
+    cut : Cut m before (find threshold list ∷ later) ss last
+    cut = cut-after m last before (find threshold list ∷ later) ss h
+
+    go : (back : List Shown) → History (cut .middle) (find threshold list ∷ later) back last → FindIn
+    go [] h = absurd h
+    go (s ∷ back) (m′, called, h) =
+        record {
+          n = n;
+          start = m;
+          is-fresh = fresh;
+          before = before;
+          shown-before = cut .front;
+          memory = cut .middle;
+          history = cut .first;
+          threshold = threshold;
+          list = list;
+          shown = s;
+          memory′ = m′;
+          called = called;
+        }
 
 -- every call of every history is as in the ledger, and every find is right
 pub demand-3 : Demand3
