@@ -31,18 +31,32 @@ use Rattle.eventlog.proofs.Laws.{all-below-append, and-left, and-right}
 
 -- ## What stands before a line, in numbers
 
--- after some lines, the last of which is `line`, that spell `traces` and then `trace`
-abbrev pub going : Line → List (List ℕ) → List ℕ → Before
-going line traces trace = record { line = some line; traces = traces ++ (trace ∷ []) }
+-- What stands before a line: nothing, or a last line, with the traces that the lines spell, the last of them apart.
+pub data Stand : Type 0 where
+  at-first : Stand
+  behind : Line → List (List ℕ) → List ℕ → Stand
 
-abbrev pub at-going : Onto → Line → List (List ℕ) → List ℕ → Progress
-at-going o line traces trace =
+abbrev pub before-of : Stand → Before
+before-of at-first = nothing-read
+before-of (behind line traces trace) = record { line = some line; traces = traces ++ (trace ∷ []) }
+
+abbrev pub numbers-of : Onto → Stand → Progress
+numbers-of o at-first = at-start o
+numbers-of o (behind line traces trace) =
     record {
       number = line .number;
       left = longest-trace - length trace;
       added = length (traces ++ (trace ∷ []));
       last = o .last + total (traces ++ (trace ∷ []));
     }
+
+added-of : (o : Onto) (s : Stand) → numbers-of o s .added ≡ length (before-of s .traces)
+added-of o at-first = refl
+added-of o (behind line traces trace) = refl
+
+last-number : (o : Onto) (s : Stand) → numbers-of o s .last ≡ o .last + total (before-of s .traces)
+last-number o at-first = omega arith
+last-number o (behind line traces trace) = refl
 
 last-of : (traces : List (List ℕ)) (trace : List ℕ) → last? (traces ++ (trace ∷ [])) ≡ some trace
 last-of [] trace = refl
@@ -120,8 +134,8 @@ module _ (o : Onto) (place : ℕ) (line : Line) (more : List Check) (values : Li
 
   going-line :
       (before : Line) (traces : List (List ℕ)) (trace : List ℕ) → length trace ≤ longest-trace →
-      reply (line-checks o (going before traces trace) place line ++ more) values ≡
-      decided (refusal (limits-of o) (at-going o before traces trace) line) place (reply more values)
+      reply (line-checks o (before-of (behind before traces trace)) place line ++ more) values ≡
+      decided (refusal (limits-of o) (numbers-of o (behind before traces trace)) line) place (reply more values)
   going-line before traces trace h =
       let falls = ltb (line .number) (before .number) in
       let same = eqb (line .number) (before .number) in
@@ -137,26 +151,30 @@ module _ (o : Onto) (place : ℕ) (line : Line) (more : List Check) (values : Li
       rw (as-long, no-room-same (o .room .events) last)
       (in-order (line .laid-out) falls undeclared same long (full (o .room) (o .count + count)) (leb (o .room .events) last) place more values)
 
+  checked :
+      (s : Stand) → Each (o .activities) (before-of s .traces) →
+      reply (line-checks o (before-of s) place line ++ more) values ≡
+      decided (refusal (limits-of o) (numbers-of o s) line) place (reply more values)
+  checked at-first e = start-line
+  checked (behind before traces trace) e = going-line before traces trace (each-front (o .activities) traces trace e .2)
+
 -- ## One line on
 
 -- What stands before the next line: the line, and the traces with its event, in numbers too.
-pub record Goes-on (o : Onto) (line : Line) (before : Before) (p : Progress) : Type 0 where
-  pub traces : List (List ℕ)
-  pub trace : List ℕ
-  pub read : with-line before line ≡ going line traces trace
-  pub counted : next-of p (line .number) ≡ at-going o line traces trace
-  pub each : Each (o .activities) (traces ++ (trace ∷ []))
+pub record Goes-on (o : Onto) (line : Line) (s : Stand) : Type 0 where
+  pub next : Stand
+  pub read : with-line (before-of s) line ≡ before-of next
+  pub counted : next-of (numbers-of o s) (line .number) ≡ numbers-of o next
+  pub each : Each (o .activities) (before-of next .traces)
 
 declared-one : (n x : ℕ) → x < n → all-below n (x ∷ []) ≡ true
 declared-one n x h = rw (lt-ltb x n h)
 
 module _ (o : Onto) (line : Line) where
-  pub start-on :
-      1 ≤ line .number → line .activity < o .activities → Goes-on o line nothing-read (at-start o)
+  start-on : 1 ≤ line .number → line .activity < o .activities → Goes-on o line at-first
   start-on positive declared =
       record {
-        traces = [];
-        trace = line .activity ∷ [];
+        next = behind line [] (line .activity ∷ []);
         read = refl;
         counted = rw (ne-eqb (line .number) 0 (λ z. omega arith));
         each = (declared-one (o .activities) (line .activity) declared, omega arith, tt);
@@ -165,7 +183,7 @@ module _ (o : Onto) (line : Line) where
   module _ (before : Line) (traces : List (List ℕ)) (trace : List ℕ) (e : Each (o .activities) (traces ++ (trace ∷ []))) where
     same-on :
         line .number ≡ before .number → 1 ≤ longest-trace - length trace → line .activity < o .activities →
-        Goes-on o line (going before traces trace) (at-going o before traces trace)
+        Goes-on o line (behind before traces trace)
     same-on same room declared =
         let f = each-front (o .activities) traces trace e in
         let x = line .activity in
@@ -176,8 +194,7 @@ module _ (o : Onto) (line : Line) where
         let last : o .last + total (traces ++ (trace ∷ [])) + 1 ≡ o .last + total (traces ++ ((trace ++ (x ∷ [])) ∷ [])) =
         omega (arith, total-last traces trace, total-last traces (trace ++ (x ∷ []))) in
         record {
-          traces = traces;
-          trace = trace ++ (x ∷ []);
+          next = behind line traces (trace ++ (x ∷ []));
           read = rw (eq-eqb (line .number) (before .number) same, extended traces trace x);
           counted = rw (eq-eqb (line .number) (before .number) same, left, added, last);
           each =
@@ -187,7 +204,7 @@ module _ (o : Onto) (line : Line) where
 
     other-on :
         (line .number ≡ before .number → ⊥) → line .activity < o .activities →
-        Goes-on o line (going before traces trace) (at-going o before traces trace)
+        Goes-on o line (behind before traces trace)
     other-on other declared =
         let x = line .activity in
         let added : length (traces ++ (trace ∷ [])) + 1 ≡ length ((traces ++ (trace ∷ [])) ++ ((x ∷ []) ∷ [])) =
@@ -195,20 +212,25 @@ module _ (o : Onto) (line : Line) where
         let last : o .last + total (traces ++ (trace ∷ [])) + 1 ≡ o .last + total ((traces ++ (trace ∷ [])) ++ ((x ∷ []) ∷ [])) =
         omega (arith, total-last (traces ++ (trace ∷ [])) (x ∷ [])) in
         record {
-          traces = traces ++ (trace ∷ []);
-          trace = x ∷ [];
+          next = behind line (traces ++ (trace ∷ [])) (x ∷ []);
           read = rw (ne-eqb (line .number) (before .number) other);
           counted = rw (ne-eqb (line .number) (before .number) other, added, last);
           each = each-last (o .activities) (traces ++ (trace ∷ [])) (x ∷ []) e (declared-one (o .activities) x declared) (omega arith);
         }
 
-    pub going-on :
-        Passed (limits-of o) (at-going o before traces trace) (line .number) (line .activity) →
-        Goes-on o line (going before traces trace) (at-going o before traces trace)
+    going-on :
+        Passed (limits-of o) (numbers-of o (behind before traces trace)) (line .number) (line .activity) →
+        Goes-on o line (behind before traces trace)
     going-on h =
         either (eqb (line .number) (before .number))
         (λ q. let same = eqb-true (line .number) (before .number) q in same-on same (h .goes-on same) (h .declared))
         (λ q. other-on (eqb-false (line .number) (before .number) q) (h .declared))
+
+  pub goes-on :
+      (s : Stand) → Each (o .activities) (before-of s .traces) → 1 ≤ line .number →
+      Passed (limits-of o) (numbers-of o s) (line .number) (line .activity) → Goes-on o line s
+  goes-on at-first e positive h = start-on positive (h .declared)
+  goes-on (behind before traces trace) e positive h = going-on before traces trace e h
 
 -- ## The whole log
 
@@ -234,40 +256,22 @@ one-line limits p place line rest on f =
 abbrev answered : Onto → Before → ℕ → List Line → Reply
 answered o before place rest = reply (log-checks-from o before place rest) (length (spelled-from before rest) ∷ [])
 
-agree-going :
-    (o : Onto) (rest : List Line) (before : Line) (traces : List (List ℕ)) (trace : List ℕ) (place : ℕ) →
-    Each (o .activities) (traces ++ (trace ∷ [])) → Within (limits-of o) (at-going o before traces trace) → Numbered rest →
-    answered o (going before traces trace) place rest ≡ read-said (survey-of (limits-of o) (at-going o before traces trace) place rest)
-agree-going o [] before traces trace place e w n = refl
-agree-going o (line ∷ rest) before traces trace place e w n =
-    let p = at-going o before traces trace in
-    let after = with-line (going before traces trace) line in
-    going-line o place line (log-checks-from o after (place + 1) rest) (length (spelled-from after rest) ∷ []) (n .0) before traces trace
-    (each-front (o .activities) traces trace e .2)
+-- the code's answer is that of the checks
+pub agree :
+    (o : Onto) (rest : List Line) (s : Stand) (place : ℕ) → Each (o .activities) (before-of s .traces) →
+    Within (limits-of o) (numbers-of o s) → Numbered rest →
+    answered o (before-of s) place rest ≡ read-said (survey-of (limits-of o) (numbers-of o s) place rest)
+agree o [] s place e w n = ap (λ (k : ℕ). gives (k ∷ [])) (sym (added-of o s))
+agree o (line ∷ rest) s place e w n =
+    let p = numbers-of o s in
+    let after = with-line (before-of s) line in
+    checked o place line (log-checks-from o after (place + 1) rest) (length (spelled-from after rest) ∷ []) (n .0) s e
     ∙ one-line (limits-of o) p place line rest (answered o after (place + 1) rest)
     (λ laid fault.
     let h = passed (limits-of o) p w (line .number) (line .activity) fault in
-    let g = going-on o line before traces trace e h in
+    let g = goes-on o line s e (n .0 laid) h in
     let w′ = within-next (limits-of o) p w (line .number) (line .activity) h in
-    rw (g .read, g .counted)
-    (agree-going o rest line (g .traces) (g .trace) (place + 1) (g .each) (rw (g .counted) at w′) (n .1)))
-
--- the code's answer is that of the checks
-pub agree :
-    (o : Onto) (rest : List Line) → Within (limits-of o) (at-start o) → Numbered rest →
-    answered o nothing-read 1 rest ≡ read-said (survey-of (limits-of o) (at-start o) 1 rest)
-agree o [] w n = refl
-agree o (line ∷ rest) w n =
-    let p = at-start o in
-    let after = with-line nothing-read line in
-    start-line o 1 line (log-checks-from o after 2 rest) (length (spelled-from after rest) ∷ []) (n .0)
-    ∙ one-line (limits-of o) p 1 line rest (answered o after 2 rest)
-    (λ laid fault.
-    let h = passed (limits-of o) p w (line .number) (line .activity) fault in
-    let g = start-on o line (n .0 laid) (h .declared) in
-    let w′ = within-next (limits-of o) p w (line .number) (line .activity) h in
-    rw (g .read, g .counted)
-    (agree-going o rest line (g .traces) (g .trace) 2 (g .each) (rw (g .counted) at w′) (n .1)))
+    rw (g .read, g .counted) (agree o rest (g .next) (place + 1) (g .each) (rw (g .counted) at w′) (n .1)))
 
 numbered-line : (bytes : List ℕ) → line-of bytes .laid-out ≡ true → 1 ≤ line-of bytes .number
 numbered-line bytes e =
@@ -312,32 +316,18 @@ pub record Fitted (o : Onto) (traces : List (List ℕ)) : Type 0 where
   pub has-ends : o .count + length traces ≤ o .room .ends
   pub fits : o .last + total traces ≤ o .room .events
 
-fitted-going :
-    (o : Onto) (rest : List Line) (before : Line) (traces : List (List ℕ)) (trace : List ℕ) (place : ℕ) →
-    Each (o .activities) (traces ++ (trace ∷ [])) → Within (limits-of o) (at-going o before traces trace) →
-    accepted (survey-of (limits-of o) (at-going o before traces trace) place rest) →
-    Fitted o (spelled-from (going before traces trace) rest)
-fitted-going o [] before traces trace place e w a =
-    record { each = e; few = w .few; has-ends = w .has-ends; fits = w .has-events }
-fitted-going o (line ∷ rest) before traces trace place e w a =
-    let p = at-going o before traces trace in
+pub fitted :
+    (o : Onto) (rest : List Line) (s : Stand) (place : ℕ) → Each (o .activities) (before-of s .traces) →
+    Within (limits-of o) (numbers-of o s) → Numbered rest → accepted (survey-of (limits-of o) (numbers-of o s) place rest) →
+    Fitted o (spelled-from (before-of s) rest)
+fitted o [] s place e w n a =
+    let added = added-of o s in
+    let last = last-number o s in
+    record { each = e; few = omega (arith, w .few); has-ends = omega (arith, w .has-ends); fits = omega (arith, w .has-events) }
+fitted o (line ∷ rest) s place e w n a =
+    let p = numbers-of o s in
     let l = line-passes (limits-of o) p place line rest a in
     let h = passed (limits-of o) p w (line .number) (line .activity) (l .no-fault) in
-    let g = going-on o line before traces trace e h in
+    let g = goes-on o line s e (n .0 (l .laid)) h in
     let w′ = within-next (limits-of o) p w (line .number) (line .activity) h in
-    rw (g .read)
-    (fitted-going o rest line (g .traces) (g .trace) (place + 1) (g .each) (rw (g .counted) at w′) (rw (g .counted) at (l .on)))
-
-pub fitted :
-    (o : Onto) (rest : List Line) → Within (limits-of o) (at-start o) → Numbered rest →
-    accepted (survey-of (limits-of o) (at-start o) 1 rest) → Fitted o (spelled-from nothing-read rest)
-fitted o [] w n a =
-    record { each = tt; few = w .few; has-ends = w .has-ends; fits = omega (arith, w .has-events) }
-fitted o (line ∷ rest) w n a =
-    let p = at-start o in
-    let l = line-passes (limits-of o) p 1 line rest a in
-    let h = passed (limits-of o) p w (line .number) (line .activity) (l .no-fault) in
-    let g = start-on o line (n .0 (l .laid)) (h .declared) in
-    let w′ = within-next (limits-of o) p w (line .number) (line .activity) h in
-    rw (g .read)
-    (fitted-going o rest line (g .traces) (g .trace) 2 (g .each) (rw (g .counted) at w′) (rw (g .counted) at (l .on)))
+    rw (g .read) (fitted o rest (g .next) (place + 1) (g .each) (rw (g .counted) at w′) (n .1) (rw (g .counted) at (l .on)))

@@ -16,7 +16,7 @@ use Rattle.columns.specs.Survey.{Within, survey-of, accepted, limits-of,
 use Rattle.columns.specs.Calls.{onto, with-traces, read-said}
 use Rattle.eventlog.proofs.Laws.{sound-facts, last-end-bound}
 use Rattle.eventlog.proofs.Adding.{None-fail}
-use Rattle.columns.proofs.Agree.{agree, numbered-lines, fitted}
+use Rattle.columns.proofs.Agree.{at-first, agree, numbered-lines, fitted}
 use Rattle.columns.proofs.Traces.{Fitting, sound-traces, kept-traces, room-traces}
 
 pub within-start : (m : Memory) → sound m ≡ true → Within (limits-of (onto m)) (at-start (onto m))
@@ -43,12 +43,12 @@ module _ (m : Memory) (log : List ℕ) (h : sound m ≡ true) where
       read-said (survey-of (limits-of (onto m)) (at-start (onto m)) 1 (lines log)) ≡
       reply (log-checks (onto m) log) (length (spelled log) ∷ [])
   unfolding log-checks spelled
-  survey-said = sym (agree (onto m) (lines log) (within-start m h) (numbered-lines log))
+  survey-said = sym (agree (onto m) (lines log) at-first 1 tt (within-start m h) (numbered-lines log))
 
   pub fitting-accepted : accepted (survey-of (limits-of (onto m)) (at-start (onto m)) 1 (lines log)) → Fitting m (spelled log)
   unfolding spelled
   fitting-accepted a =
-      let f = fitted (onto m) (lines log) (within-start m h) (numbered-lines log) a in
+      let f = fitted (onto m) (lines log) at-first 1 tt (within-start m h) (numbered-lines log) a in
       record { each = f .each; few = f .few; has-ends = f .has-ends; fits = f .fits }
 
   module _ (none : None-fail (log-checks (onto m) log)) where

@@ -16,7 +16,7 @@ use Rattle.columns.specs.Log.{lines, log-checks, spelled}
 use Rattle.columns.specs.Survey.{survey-of, accepted, limits-of, at-start, Buffers, buffers, recorded}
 use Rattle.columns.specs.Calls.{onto, checks-of-read, with-traces, read-said, Reads}
 use Rattle.eventlog.proofs.Adding.{none-fail, given-new, refused-old}
-use Rattle.columns.proofs.Agree.{numbered-lines}
+use Rattle.columns.proofs.Agree.{at-first, numbered-lines}
 use Rattle.columns.proofs.Laws.{within-start, none-fail-reply, given-accepted, survey-said, fitting-accepted}
 use Rattle.columns.proofs.Records.{buffers-of, written}
 use Rattle.columns.proofs.Traces.{Fitting, count-traces, activities-traces}
@@ -63,7 +63,7 @@ module _ (m : Memory) (log : List ℕ) where
       let k = counted added e in
       let all = with-traces m (spelled log) in
       let left : b ≡ buffers-of all =
-      w ∙ written m (k .is-sound) (lines log) (within-start m (k .is-sound)) (numbered-lines log) (k .passes) in
+      w ∙ written m (k .is-sound) (lines log) at-first 1 tt (within-start m (k .is-sound)) (numbered-lines log) (k .passes) in
       let activities : m .store .activities ≡ all .store .activities = sym (activities-traces (spelled log) m) in
       let traces : m .store .traces + added ≡ all .store .traces = omega (arith, k .count, count-traces (spelled log) m) in
       λ i.

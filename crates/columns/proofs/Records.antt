@@ -21,7 +21,7 @@ use Rattle.columns.specs.Calls.{onto, with-traces}
 use Rattle.columns.proofs.Bools.{either, clash}
 use Rattle.columns.proofs.Lines.{lines-at}
 use Rattle.columns.proofs.Passes.{Passed, passed, within-next}
-use Rattle.columns.proofs.Agree.{going, at-going, Goes-on, start-on, going-on, extended, Numbered, Line-passes, line-passes}
+use Rattle.columns.proofs.Agree.{Stand, at-first, behind, before-of, numbers-of, extended, goes-on, Fitted, fitted, Numbered, Line-passes, line-passes}
 use Rattle.columns.proofs.Traces.{Each, Fitting, last-end-traces, count-traces, with-last, total-last, each-front, sets-last}
 
 -- ## One line of an accepted log
@@ -117,8 +117,13 @@ module _ (m : Memory) (h : sound m ≡ true) (line : Line) where
   abbrev noted-line : Progress → Buffers → Buffers
   noted-line p b = noted (m .store .traces) p (Entry.Event (line .number) (line .activity)) b
 
-  start-written :
-      1 ≤ line .number → noted-line (at-start (onto m)) (buffers-of m) ≡ buffers-of (with-traces m (with-line nothing-read line .traces))
+  -- a line's event, written behind what stands before it
+  abbrev Written : Stand → Type 0
+  Written s =
+      noted-line (numbers-of (onto m) s) (buffers-of (with-traces m (before-of s .traces))) ≡
+      buffers-of (with-traces m (with-line (before-of s) line .traces))
+
+  start-written : 1 ≤ line .number → Written at-first
   start-written positive =
       rw (ne-eqb (line .number) 0 (λ z. omega arith))
       (trace-more m (line .activity) (last-end m) (m .store .traces + 1 - 1) (last-end m + 1) refl (omega arith) refl)
@@ -137,8 +142,7 @@ module _ (m : Memory) (h : sound m ≡ true) (line : Line) where
 
     same-written :
         line .number ≡ before .number →
-        noted-line (at-going (onto m) before traces trace) (buffers-of (with-traces m (traces ++ (trace ∷ [])))) ≡
-        buffers-of (with-traces m (with-line (going before traces trace) line .traces))
+        Written (behind before traces trace)
     same-written same =
         let x = line .activity in
         let last = last-end-traces traces m h front-fits in
@@ -149,8 +153,7 @@ module _ (m : Memory) (h : sound m ≡ true) (line : Line) where
 
     other-written :
         (line .number ≡ before .number → ⊥) →
-        noted-line (at-going (onto m) before traces trace) (buffers-of (with-traces m (traces ++ (trace ∷ [])))) ≡
-        buffers-of (with-traces m (with-line (going before traces trace) line .traces))
+        Written (behind before traces trace)
     other-written other =
         let last = last-end-traces (traces ++ (trace ∷ [])) m h f in
         let count = count-traces (traces ++ (trace ∷ [])) m in
@@ -158,18 +161,15 @@ module _ (m : Memory) (h : sound m ≡ true) (line : Line) where
         (trace-more (with-traces m (traces ++ (trace ∷ []))) (line .activity) _ _ _ (sym last) (omega arith) (omega arith))
 
     going-written :
-        noted-line (at-going (onto m) before traces trace) (buffers-of (with-traces m (traces ++ (trace ∷ [])))) ≡
-        buffers-of (with-traces m (with-line (going before traces trace) line .traces))
+        Written (behind before traces trace)
     going-written =
         either (eqb (line .number) (before .number))
         (λ q. same-written (eqb-true (line .number) (before .number) q))
         (λ q. other-written (eqb-false (line .number) (before .number) q))
 
-fitting-going :
-    (m : Memory) (before : Line) (traces : List (List ℕ)) (trace : List ℕ) → Each (m .store .activities) (traces ++ (trace ∷ [])) →
-    Within (limits-of (onto m)) (at-going (onto m) before traces trace) → Fitting m (traces ++ (trace ∷ []))
-fitting-going m before traces trace e w =
-    record { each = e; few = w .few; has-ends = w .has-ends; fits = w .has-events }
+  line-written : (s : Stand) → Fitting m (before-of s .traces) → 1 ≤ line .number → Written s
+  line-written at-first f positive = start-written positive
+  line-written (behind before traces trace) f positive = going-written before traces trace f
 
 -- the second pass, one line on, where the line is laid out
 recorded-on :
@@ -180,43 +180,25 @@ recorded-on count p q b c line rest laid moves writes =
     rw laid
     (ap (λ (d : Buffers). recorded count (next-of p (line .number)) d rest) writes ∙ ap (λ (r : Progress). recorded count r c rest) moves)
 
-written-going :
-    (m : Memory) → sound m ≡ true → (rest : List Line) (before : Line) (traces : List (List ℕ)) (trace : List ℕ) (place : ℕ) →
-    Each (m .store .activities) (traces ++ (trace ∷ [])) → Within (limits-of (onto m)) (at-going (onto m) before traces trace) →
-    accepted (survey-of (limits-of (onto m)) (at-going (onto m) before traces trace) place rest) →
-    recorded (m .store .traces) (at-going (onto m) before traces trace) (buffers-of (with-traces m (traces ++ (trace ∷ [])))) rest ≡
-    buffers-of (with-traces m (spelled-from (going before traces trace) rest))
-written-going m h [] before traces trace place e w a = refl
-written-going m h (line ∷ rest) before traces trace place e w a =
-    let o = onto m in
-    let p = at-going o before traces trace in
-    let l = line-passes (limits-of o) p place line rest a in
-    let k = passed (limits-of o) p w (line .number) (line .activity) (l .no-fault) in
-    let g = going-on o line before traces trace e k in
-    let w′ = within-next (limits-of o) p w (line .number) (line .activity) k in
-    let writes : noted-line m h line p (buffers-of (with-traces m (traces ++ (trace ∷ [])))) ≡ buffers-of (with-traces m (g .traces ++ (g .trace ∷ []))) =
-    going-written m h line before traces trace (fitting-going m before traces trace e w)
-    ∙ ap (λ (b : Before). buffers-of (with-traces m (b .traces))) (g .read) in
-    recorded-on (m .store .traces) p (at-going o line (g .traces) (g .trace)) _ _ line rest (l .laid) (g .counted) writes
-    ∙ written-going m h rest line (g .traces) (g .trace) (place + 1) (g .each) (rw (g .counted) at w′) (rw (g .counted) at (l .on))
-    ∙ ap (λ (b : Before). buffers-of (with-traces m (spelled-from b rest))) (sym (g .read))
-
 -- what is written is the log's traces, added one after the other
 pub written :
-    (m : Memory) → sound m ≡ true → (rest : List Line) → Within (limits-of (onto m)) (at-start (onto m)) → Numbered rest →
-    accepted (survey-of (limits-of (onto m)) (at-start (onto m)) 1 rest) →
-    recorded (m .store .traces) (at-start (onto m)) (buffers-of m) rest ≡ buffers-of (with-traces m (spelled-from nothing-read rest))
-written m h [] w n a = refl
-written m h (line ∷ rest) w n a =
+    (m : Memory) → sound m ≡ true → (rest : List Line) (s : Stand) (place : ℕ) → Each (m .store .activities) (before-of s .traces) →
+    Within (limits-of (onto m)) (numbers-of (onto m) s) → Numbered rest →
+    accepted (survey-of (limits-of (onto m)) (numbers-of (onto m) s) place rest) →
+    recorded (m .store .traces) (numbers-of (onto m) s) (buffers-of (with-traces m (before-of s .traces))) rest ≡
+    buffers-of (with-traces m (spelled-from (before-of s) rest))
+written m h [] s place e w n a = refl
+written m h (line ∷ rest) s place e w n a =
     let o = onto m in
-    let p = at-start o in
-    let l = line-passes (limits-of o) p 1 line rest a in
+    let p = numbers-of o s in
+    let l = line-passes (limits-of o) p place line rest a in
     let k = passed (limits-of o) p w (line .number) (line .activity) (l .no-fault) in
-    let g = start-on o line (n .0 (l .laid)) (k .declared) in
+    let g = goes-on o line s e (n .0 (l .laid)) k in
     let w′ = within-next (limits-of o) p w (line .number) (line .activity) k in
-    let writes : noted-line m h line p (buffers-of m) ≡ buffers-of (with-traces m (g .traces ++ (g .trace ∷ []))) =
-    start-written m h line (n .0 (l .laid))
+    let f = fitted o [] s place e w tt tt in
+    let writes : noted-line m h line p (buffers-of (with-traces m (before-of s .traces))) ≡ buffers-of (with-traces m (before-of (g .next) .traces)) =
+    line-written m h line s (record { each = f .each; few = f .few; has-ends = f .has-ends; fits = f .fits }) (n .0 (l .laid))
     ∙ ap (λ (b : Before). buffers-of (with-traces m (b .traces))) (g .read) in
-    recorded-on (m .store .traces) p (at-going o line (g .traces) (g .trace)) _ _ line rest (l .laid) (g .counted) writes
-    ∙ written-going m h rest line (g .traces) (g .trace) 2 (g .each) (rw (g .counted) at w′) (rw (g .counted) at (l .on))
+    recorded-on (m .store .traces) p (numbers-of o (g .next)) _ _ line rest (l .laid) (g .counted) writes
+    ∙ written m h rest (g .next) (place + 1) (g .each) (rw (g .counted) at w′) (n .1) (rw (g .counted) at (l .on))
     ∙ ap (λ (b : Before). buffers-of (with-traces m (spelled-from b rest))) (sym (g .read))

@@ -1,5 +1,5 @@
--- How the code goes over a log's lines, with numbers for what stands before a line. Nothing here has to be believed: proofs/Lines.antt
--- shows that it comes to `log-checks` and `spelled`.
+-- How the code goes over a log's lines, with numbers for what stands before a line. Nothing here has to be believed: proofs/Agree.antt
+-- and proofs/Records.antt show that it comes to `log-checks` and `spelled`.
 -- Assumes nothing.
 use Prim.Native.Nat.{ℕ, _+_, _-_, _*_, _≤_, _<_}
 use mathlib.Core.Path.{_≡_}
