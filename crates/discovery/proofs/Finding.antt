@@ -1,20 +1,20 @@
 -- What find answers, check by check, and what passing over all constraints makes of the list.
 -- Assumes nothing.
-use Prim.Native.Nat.{ℕ, zero, suc, _+_, _*_, _≤_, _<_}
+use Prim.Native.Nat.{ℕ, suc, _*_, _≤_, _<_}
 use mathlib.Core.Path.{_≡_, refl, sym, ap, _∙_}
-use mathlib.Core.Bool.{Bool, true, false, not}
-use mathlib.Core.List.{List, [], _∷_, _++_}
+use mathlib.Core.Bool.{true}
+use mathlib.Core.List.{List, [], _∷_}
 use native.Mathlib.Omega.{arith}
-use borrow.Author.Tests.{le-leb, lt-leb, lt-ltb, le-ltb, ne-eqb}
+use borrow.Author.Tests.{le-leb, lt-ltb, le-ltb, ne-eqb}
 use lib.ListN.{length}
 use lib.Seq.{sets}
-use Rattle.eventlog.specs.Checks.{Check, Reply, gives, refused, reply}
+use Rattle.eventlog.specs.Checks.{Reply, gives, refused, reply}
 use Rattle.eventlog.specs.Store.{Memory, sound, kept}
 use Rattle.eventlog.proofs.Laws.{kept-length}
 use Rattle.eventlog.proofs.Adding.{given-new, refused-old}
 use Rattle.discovery.specs.declared.Tally.{Tally}
 use Rattle.discovery.specs.declared.FindAnswer.the-variants.{Listed, Refused}
-use Rattle.discovery.specs.Constraints.{constraints, listed, replayed, trace-count}
+use Rattle.discovery.specs.Constraints.{constraints, listed, replayed}
 use Rattle.discovery.specs.Calls.{Finds, checks-of-find, find-values, with-list}
 use Rattle.discovery.specs.Passes.{Passes, none-yet}
 
@@ -24,7 +24,8 @@ sets-none : (i : ℕ) (vs : List ℕ) → sets [] i vs ≡ []
 sets-none i [] = refl
 sets-none i (v ∷ vs) = sets-none (suc i) vs
 
-module _ (threshold n : ℕ) (traces : List (List ℕ)) (list list′ : List ℕ) (t : Tally) (p : Passes threshold traces (constraints n) none-yet list t list′) where
+module _ (threshold n : ℕ) (traces : List (List ℕ)) (list list′ : List ℕ) (t : Tally)
+    (p : Passes threshold traces (constraints n) none-yet list t list′) where
   pub passed-listed : t .listed ≡ length (listed n threshold traces)
   unfolding listed
   passed-listed = omega (arith, p .listed)

@@ -1,15 +1,15 @@
 -- Whether an activity occurs from a place of a trace on: at each place it is there, or the question is put to the next one.
 -- Assumes nothing.
-use Prim.Native.Nat.{ℕ, suc, _+_, _<_, _≤_}
-use mathlib.Core.Path.{_≡_, refl}
+use Prim.Native.Nat.{ℕ, _+_, _<_, _≤_}
+use mathlib.Core.Path.{_≡_}
 use mathlib.Core.Bool.{Bool, true, false}
-use mathlib.Core.List.{List, [], _∷_, _++_}
+use mathlib.Core.List.{List}
 use native.Mathlib.Numerals.{add-one}
 use lib.Dec.{eqb}
 use lib.ListN.{length, take, drop, getD, drop-of-length-le}
 use lib.Seq.{take-suc, drop-cons}
 use borrow.Author.Tests.{eq-eqb, ne-eqb}
-use Rattle.declare.specs.Meaning.{some-on, occurs}
+use Rattle.declare.specs.Meaning.{some-on}
 
 abbrev pub occurs-from : ℕ → List ℕ → ℕ → Bool
 occurs-from a trace i = some-on (take i trace) (drop i trace) (λ before x after. eqb x a)

@@ -1,9 +1,9 @@
 -- Passing over constraints: one after the other, list after list, as the three loops of find do.
 -- Assumes nothing.
-use Prim.Native.Nat.{ℕ, zero, suc, _+_, _*_, _≤_, _<_}
-use mathlib.Core.Path.{_≡_, refl, sym, ap, subst, _∙_}
+use Prim.Native.Nat.{ℕ, zero, suc, _+_, _*_, _≤_}
+use mathlib.Core.Path.{_≡_, refl, ap, _∙_}
 use mathlib.Core.Bool.{Bool, true, false}
-use mathlib.Core.List.{List, [], _∷_, _++_, append-assoc, append-nil}
+use mathlib.Core.List.{List, [], _∷_, _++_, append-nil}
 use native.Mathlib.Numerals.{add-one}
 use native.Mathlib.Omega.{arith}
 use native.Mathlib.Nat.{suc-mul}
@@ -58,7 +58,9 @@ layout-append traces cs ds = for-each-append _ cs ds
 
 numbers-snoc : (first more : ℕ) → numbers-from first (suc more) ≡ numbers-from first more ++ ((first + more) ∷ [])
 numbers-snoc first zero = ap (λ (x : ℕ). x ∷ []) (omega arith)
-numbers-snoc first (suc more) = ap (λ (l : List ℕ). first ∷ l) (numbers-snoc (suc first) more ∙ ap (λ (x : ℕ). numbers-from (suc first) more ++ (x ∷ [])) (omega arith))
+numbers-snoc first (suc more) =
+    ap (λ (l : List ℕ). first ∷ l)
+    (numbers-snoc (suc first) more ∙ ap (λ (x : ℕ). numbers-from (suc first) more ++ (x ∷ [])) (omega arith))
 
 for-each-snoc :
     {B : Type 0} (f : ℕ → List B) (first more : ℕ) →
@@ -71,9 +73,9 @@ for-each-snoc {B} f first more =
 
 -- ## Tests over a sound memory's traces
 
-module _ (m : Memory) (h : sound m ≡ true) (threshold : ℕ) where
-  pub meets-kept : (number : ℕ) → meets threshold (m .store .traces) number ≡ meets threshold (trace-count (kept m)) number
-  meets-kept number = rw (kept-length m h)
+module _ (m : Memory) (h : sound m ≡ true) where
+  pub meets-kept : (threshold number : ℕ) → meets threshold (m .store .traces) number ≡ meets threshold (trace-count (kept m)) number
+  meets-kept threshold number = rw (kept-length m h)
 
   pub fulfilments-few : (c : Constraint) → fulfilments (kept m) c ≤ 4095
   unfolding fulfilments
@@ -133,15 +135,18 @@ module _ (threshold : ℕ) (traces : List (List ℕ)) where
       rw (← e′, for-each-snoc f first more)
       (passes-append (for-each (numbers-from first more) f) (f (first + more)) t t′ t″ list list′ list″ p (rw e q))
 
-  pub passes-length : (cs : List Constraint) (t t′ : Tally) (list list′ : List ℕ) → Passes threshold traces cs t list t′ list′ → length list′ ≡ length list
+  pub passes-length :
+      (cs : List Constraint) (t t′ : Tally) (list list′ : List ℕ) → Passes threshold traces cs t list t′ list′ → length list′ ≡ length list
   passes-length cs t t′ list list′ p = ap length (p .written) ∙ simp length-sets
 
   -- no more are listed and replayed than there are
   pub passes-within :
       (cs : List Constraint) (k less most : ℕ) (t t′ : Tally) (list list′ : List ℕ) → length cs ≤ k → less + k ≤ most →
       Within less t → Passes threshold traces cs t list t′ list′ → Within most t′
-  passes-within cs k less most t t′ list list′ few room low p =
-      (omega (arith, p .listed, how-many-at-most (is-listed threshold traces) cs), omega (arith, p .replayed, how-many-at-most (survives threshold traces) cs))
+  passes-within cs k less most t t′ list list′ few room low p = (
+    omega (arith, p .listed, how-many-at-most (is-listed threshold traces) cs),
+    omega (arith, p .replayed, how-many-at-most (survives threshold traces) cs),
+  )
 
 -- ## How many constraints there can be
 

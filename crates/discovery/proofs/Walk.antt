@@ -1,9 +1,9 @@
 -- A walk over the log's ends, trace by trace: how many of the kept traces pass a test. Support and replay are walks.
 -- Assumes nothing.
 use Prim.Native.Nat.{ℕ, suc, _+_, _-_, _≤_, _<_}
-use mathlib.Core.Path.{_≡_, refl, sym, ap, subst, _∙_}
+use mathlib.Core.Path.{_≡_, refl, sym, ap, _∙_}
 use mathlib.Core.Bool.{Bool, true, false}
-use mathlib.Core.List.{List, [], _∷_, _++_}
+use mathlib.Core.List.{List, [], _∷_}
 use native.Mathlib.Numerals.{add-one}
 use native.Mathlib.Omega.{arith}
 use lib.ListN.{length, take, drop, getD, drop-of-length-le}
@@ -12,9 +12,9 @@ use Rattle.declare.specs.Logic.{_and_, if_then_else_}
 use Rattle.declare.specs.declared.Verdict.{Verdict}
 use Rattle.declare.specs.declared.Verdict.the-variants.{Fulfilled, NotActivated, Violated}
 use Rattle.declare.specs.Meaning.{activated, holds, fulfilled, verdict}
-use Rattle.eventlog.specs.Store.{Memory, cut, kept, last-from, last-end, rising, sound}
-use Rattle.eventlog.proofs.Laws.{kept-ends, Sound, sound-facts, Rises, rising-facts, rises-on}
-use Rattle.discovery.specs.Lists.{those, how-many}
+use Rattle.eventlog.specs.Store.{Memory, cut, last-from, last-end, rising, sound}
+use Rattle.eventlog.proofs.Laws.{sound-facts, Rises, rising-facts, rises-on}
+use Rattle.discovery.specs.Lists.{how-many}
 
 -- a part that is handed on, from a start to an end, is the slice that the definitions speak of
 pub part-slice {ℓ} : {A : Type ℓ} (from to : ℕ) (l : List A) → from ≤ to → to ≤ length l → take (to - from) (drop from l) ≡ slice from to l

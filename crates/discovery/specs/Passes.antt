@@ -38,7 +38,8 @@ abbrev pub Within : ℕ → Tally → Type 0
 Within most t = (t .listed ≤ most) × (t .replayed ≤ most)
 
 -- passing over the constraints takes the tally and the slice to these: each listed one is written behind those before it
-pub record Passes (threshold : ℕ) (traces : List (List ℕ)) (cs : List Constraint) (t : Tally) (list : List ℕ) (t′ : Tally) (list′ : List ℕ) : Type 0 where
+pub record Passes
+    (threshold : ℕ) (traces : List (List ℕ)) (cs : List Constraint) (t : Tally) (list : List ℕ) (t′ : Tally) (list′ : List ℕ) : Type 0 where
   pub listed : t′ .listed ≡ t .listed + how-many (is-listed threshold traces) cs
   pub replayed : t′ .replayed ≡ t .replayed + how-many (survives threshold traces) cs
   pub written : list′ ≡ sets list (4 * t .listed) (layout traces (those (is-listed threshold traces) cs))

@@ -9,7 +9,7 @@ use Rattle.declare.specs.Logic.{_or_, if_then_else_}
 use Rattle.declare.specs.Meaning.{between}
 use Rattle.declare.proofs.Ranges.{inside, below, above}
 use Rattle.discovery.specs.Constraints.{class-of}
-use Rattle.discovery.specs.declared.Class.the-variants.{WithA, All, Either, Both}
+use Rattle.discovery.specs.declared.Class.the-variants.{Either, Both}
 use Rattle.discovery.proofs.class_of.Statement.{statement}
 use Rattle.discovery.proofs.class_of.Tie as tie
 

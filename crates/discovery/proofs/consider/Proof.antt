@@ -1,8 +1,6 @@
 -- `discovery::consider` meets its contract: support decides whether pruning keeps the constraint, and the fulfilled traces whether it is listed.
 -- Assumes nothing.
-use Prim.Native.Nat.{ℕ}
 use mathlib.Core.Path.{_≡_, refl, sym, ap, _∙_}
-use mathlib.Core.Bool.{true, false}
 use native.Mathlib.Omega.{arith}
 use borrow.Author.Needs.{needs}
 use borrow.Author.Tests.{not-true, not-false}
@@ -22,7 +20,7 @@ keeps : (c : tie.After-meets) → let s = c .before .before .before .before .bef
 keeps c =
     let s = c .before .before .before .before .before in
     c .meets .ensures ∙ ap (meets (s .args .threshold) (s .args .store .traces)) (c .before .support .ensures)
-    ∙ meets-kept (memory-at s) (s .pre .0) (s .args .threshold) _
+    ∙ meets-kept (memory-at s) (s .pre .0) _ _
 
 -- what the second test says: that the constraint is listed
 lists : (c : tie.After-meets2) → let s = c .before .before .before .before .before .before .before .before in
@@ -30,7 +28,7 @@ lists : (c : tie.After-meets2) → let s = c .before .before .before .before .be
 lists c =
     let s = c .before .before .before .before .before .before .before .before in
     c .meets2 .ensures ∙ ap (meets (s .args .threshold) (s .args .store .traces)) (c .before .replay .ensures .fulfilled)
-    ∙ meets-kept (memory-at s) (s .pre .0) (s .args .threshold) _
+    ∙ meets-kept (memory-at s) (s .pre .0) _ _
 
 support-requires : tie.Need-support-requires
 support-requires c κs = search needs
@@ -50,13 +48,15 @@ meets-requires-2 c κs = search needs
 
 returns-2 : tie.Need-returns-2
 returns-2 c =
-    let kept-here = sym (keeps (c .before .before .before .before)) ∙ not-false _ (c .before .before .before .if1 .left) in
-    passes-unlisted _ _ _ _ _ _ refl (c .before .before .replay .ensures .counted) kept-here (sym (lists (c .before)) ∙ not-true _ (c .if2 .taken))
+    let r = c .before .before in
+    passes-unlisted _ _ _ _ _ _ refl (r .replay .ensures .counted)
+    (sym (keeps (r .before .before)) ∙ not-false _ (r .before .if1 .left)) (sym (lists (c .before)) ∙ not-true _ (c .if2 .taken))
 
 cast-write : tie.Need-cast-write
 cast-write c =
-    let s = c .before .before .before .before .before .before .before .before .before .before in
-    omega (arith, c .before .before .before .replay .ensures .fulfilled, fulfilments-few (memory-at s) (s .pre .0) (s .args .threshold) (s .args .c))
+    let r = c .before .before .before in
+    let s = r .before .before .before .before .before .before .before in
+    omega (arith, r .replay .ensures .fulfilled, fulfilments-few (memory-at s) (s .pre .0) (s .args .c))
 
 write-requires : tie.Need-write-requires
 write-requires c κs = search needs
@@ -69,10 +69,12 @@ same-length c = search needs
 
 returns-3 : tie.Need-returns-3
 returns-3 c =
-    let kept-here = sym (keeps (c .before .before .before .before .before .before .before .before .before)) ∙ not-false _ (c .before .before .before .before .before .before .before .before .if1 .left) in
-    let listed-here = sym (lists (c .before .before .before .before .before .before)) ∙ not-false _ (c .before .before .before .before .before .if2 .left) in
-    passes-listed _ _ _ _ _ _ _ refl (c .before .before .before .before .before .before .before .replay .ensures .counted) kept-here listed-here
-    (rw (← c .before .before .before .before .before .before .before .replay .ensures .fulfilled) (c .before .before .before .write .ensures))
+    let w = c .before .before .before in
+    let l = w .before .before in
+    let r = l .before .before in
+    passes-listed _ _ _ _ _ _ _ refl (r .replay .ensures .counted)
+    (sym (keeps (r .before .before)) ∙ not-false _ (r .before .if1 .left)) (sym (lists (l .before)) ∙ not-false _ (l .if2 .left))
+    (rw (← r .replay .ensures .fulfilled) (w .write .ensures))
 
 pub consider-spec : {M : Type 1} → statement M
 consider-spec =

@@ -1,9 +1,6 @@
 -- `discovery::counts_for` meets its contract: in each arm the class is known, and the calls say which activities occur.
 -- Assumes nothing.
-use mathlib.Core.Path.{_≡_, refl, sym, _∙_}
-use mathlib.Core.Bool.{Bool, true, false}
 use borrow.Author.Needs.{needs}
-use Rattle.declare.specs.Logic.{_and_, _or_}
 use Rattle.discovery.proofs.counts_for.Statement.{statement}
 use Rattle.discovery.proofs.counts_for.Tie as tie
 

@@ -1,9 +1,8 @@
 -- `discovery::find` meets its contract: each refusal from the tests that led there, and the list from the second pass over the constraints.
 -- The first pass is lent no numbers of the slice, so that it leaves the slice as it was. Assumes nothing.
-use mathlib.Core.Path.{_≡_, refl, sym, ap, _∙_}
-use mathlib.Core.Bool.{true, false}
-use mathlib.Core.List.{List, []}
-use Prim.Native.Nat.{ℕ}
+use mathlib.Core.Path.{_≡_, refl, sym, _∙_}
+use mathlib.Core.Bool.{true}
+use mathlib.Core.List.{[]}
 use borrow.Author.Needs.{needs}
 use borrow.Author.Tests.{not-true, not-false, le-leb, lt-leb}
 use Rattle.eventlog.specs.Store.{Memory, memory, sound}
@@ -67,9 +66,10 @@ nothing-written c = passed-none _ _ _ _ _ _ (c .pass-all .ensures) refl
 returns-5 : tie.Need-returns-5
 returns-5 c =
     let p = c .before .before .before .before in
-    let s = c .before .before .before .before .before .before .before .before .before .before .before .before .before .before in
+    let e = p .before .before in
     rw (nothing-written p)
-    (finds-short (memory-at s) _ _ (is-sound-here (c .before .before .before .before .before .before .before .before .before)) (c .before .before .before .before .before .before .before .before .if2 .left) (c .before .before .before .before .before .before .before .if3 .left) (c .before .before .before .before .before .before .if4 .left)
+    (finds-short (memory-at (e .before .before .before .before .before .before .before .before)) _ _ (is-sound-here (e .before .before .before))
+    (e .before .before .if2 .left) (e .before .if3 .left) (e .if4 .left)
     _ (passed-listed _ _ _ _ _ _ (p .pass-all .ensures)) (rw (nothing-written p) at (c .if5 .taken)))
 
 pass-all-requires-2 : tie.Need-pass-all-requires-2
@@ -81,8 +81,9 @@ same-length-2 c = search needs
 returns-6 : tie.Need-returns-6
 returns-6 c =
     let p = c .before .before .before .before .before .before .before .before in
-    let s = c .before .before .before .before .before .before .before .before .before .before .before .before .before .before .before .before .before .before in
-    finds-listed (memory-at s) _ _ (is-sound-here (c .before .before .before .before .before .before .before .before .before .before .before .before .before)) (c .before .before .before .before .before .before .before .before .before .before .before .before .if2 .left) (c .before .before .before .before .before .before .before .before .before .before .before .if3 .left) (c .before .before .before .before .before .before .before .before .before .before .if4 .left)
+    let e = p .before .before in
+    finds-listed (memory-at (e .before .before .before .before .before .before .before .before)) _ _ (is-sound-here (e .before .before .before))
+    (e .before .before .if2 .left) (e .before .if3 .left) (e .if4 .left)
     _ (passed-listed _ _ _ _ _ _ (p .pass-all .ensures)) (rw (nothing-written p) at (c .before .before .before .before .if5 .left)) _ _
     (rw (nothing-written p) at (c .before .before .pass-all2 .ensures))
 

@@ -1,9 +1,8 @@
 -- `discovery::occurs` meets its contract: the activity occurs in the trace just where it occurs from the loop's place on.
 -- Assumes nothing.
-use Prim.Native.Nat.{ℕ, _≤_, _-_}
+use Prim.Native.Nat.{_≤_, _-_}
 use mathlib.Core.Path.{_≡_, refl, sym, _∙_}
 use native.Mathlib.Omega.{arith}
-use borrow.Author.Needs.{needs}
 use lib.ListN.{length}
 use Rattle.declare.specs.Meaning.{occurs}
 use Rattle.discovery.proofs.Occurrence.{occurs-from, occurs-here, occurs-later, occurs-no-more}

@@ -1,9 +1,8 @@
 -- `discovery::pass_all` meets its contract: at a template those below it are passed.
 -- Assumes nothing.
-use Prim.Native.Nat.{ℕ, _+_, _-_, _≤_}
-use mathlib.Core.Path.{_≡_, refl, sym, ap, _∙_}
+use Prim.Native.Nat.{_+_, _-_, _≤_}
+use mathlib.Core.Path.{_≡_}
 use native.Mathlib.Omega.{arith}
-use borrow.Author.Needs.{needs}
 use lib.ListN.{length}
 use Rattle.eventlog.specs.Store.{memory, kept}
 use Rattle.eventlog.proofs.Laws.{sound-facts}

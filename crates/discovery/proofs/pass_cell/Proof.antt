@@ -1,6 +1,6 @@
 -- `discovery::pass_cell` meets its contract: the test says whether there is a constraint on the pair.
 -- Assumes nothing.
-use mathlib.Core.Path.{_≡_, sym, _∙_}
+use mathlib.Core.Path.{sym, _∙_}
 use borrow.Author.Needs.{needs}
 use Rattle.discovery.proofs.Passing.{passes-none}
 use Rattle.discovery.proofs.pass_cell.Statement.{statement}
@@ -16,7 +16,9 @@ same-length : tie.Need-same-length
 same-length c = search needs
 
 returns : tie.Need-returns
-returns c = rw (sym (c .before .before .before .before .before .pairs .ensures) ∙ c .before .before .before .before .if1 .taken) (c .before .before .consider .ensures)
+returns c =
+    let taken = c .before .before .before .before in
+    rw (sym (taken .before .pairs .ensures) ∙ taken .if1 .taken) (c .before .before .consider .ensures)
 
 returns-2 : tie.Need-returns-2
 returns-2 c = rw (sym (c .before .pairs .ensures) ∙ c .if1 .left) (passes-none _ _ _ _)

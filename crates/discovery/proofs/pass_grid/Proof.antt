@@ -1,9 +1,8 @@
 -- `discovery::pass_grid` meets its contract: at a the rows of the activities below a are passed.
 -- Assumes nothing.
-use Prim.Native.Nat.{ℕ, _+_, _-_, _≤_}
-use mathlib.Core.Path.{_≡_, refl, sym, ap, _∙_}
+use Prim.Native.Nat.{_+_, _-_, _≤_}
+use mathlib.Core.Path.{_≡_, refl}
 use native.Mathlib.Omega.{arith}
-use borrow.Author.Needs.{needs}
 use lib.ListN.{length}
 use Rattle.eventlog.specs.Store.{memory, kept}
 use Rattle.eventlog.proofs.Laws.{sound-facts}

@@ -1,9 +1,8 @@
 -- `discovery::pass_row` meets its contract: at b the constraints on a and the activities below b are passed.
 -- Assumes nothing.
-use Prim.Native.Nat.{ℕ, _+_, _-_, _≤_}
-use mathlib.Core.Path.{_≡_, refl, sym, ap, _∙_}
+use Prim.Native.Nat.{_+_, _-_, _≤_}
+use mathlib.Core.Path.{_≡_, refl}
 use native.Mathlib.Omega.{arith}
-use borrow.Author.Needs.{needs}
 use lib.ListN.{length}
 use Rattle.eventlog.specs.Store.{memory, kept}
 use Rattle.eventlog.proofs.Laws.{sound-facts}

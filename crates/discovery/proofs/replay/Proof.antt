@@ -1,13 +1,11 @@
 -- `discovery::replay` meets its contract: the loop is a walk over the ends that counts the fulfilled traces.
 -- Assumes nothing.
-use Prim.Native.Nat.{ℕ, _-_, _≤_, _<_}
-use mathlib.Core.Path.{_≡_, refl, sym, ap, _∙_}
-use mathlib.Core.Bool.{true, false}
+use Prim.Native.Nat.{_-_}
+use mathlib.Core.Path.{refl, sym, ap, _∙_}
 use mathlib.Core.Logic.{⊎-elim}
 use native.Mathlib.Omega.{arith}
 use borrow.Author.Needs.{needs}
-use Rattle.eventlog.specs.Store.{memory, kept}
-use Rattle.discovery.specs.Lists.{how-many}
+use Rattle.eventlog.specs.Store.{kept}
 use Rattle.declare.specs.Meaning.{fulfilled}
 use Rattle.discovery.specs.Constraints.{fulfilments}
 use Rattle.discovery.proofs.Walk.{Walk, walk-start, walk-next, walk-done, starts-before, ends-within, is-fulfilled, verdict-fulfilled}

@@ -1,13 +1,11 @@
 -- `discovery::support` meets its contract: the loop is a walk over the ends that counts the traces of the class.
 -- Assumes nothing.
-use Prim.Native.Nat.{ℕ, _-_, _≤_, _<_}
-use mathlib.Core.Path.{_≡_, refl, sym, ap, _∙_}
-use mathlib.Core.Bool.{true, false}
+use Prim.Native.Nat.{_-_}
+use mathlib.Core.Path.{sym}
 use mathlib.Core.Logic.{⊎-elim}
 use native.Mathlib.Omega.{arith}
 use borrow.Author.Needs.{needs}
-use Rattle.eventlog.specs.Store.{memory, kept}
-use Rattle.discovery.specs.Lists.{how-many}
+use Rattle.eventlog.specs.Store.{kept}
 use Rattle.discovery.specs.Constraints.{class-of, counts-for, support}
 use Rattle.discovery.proofs.Walk.{Walk, walk-start, walk-next, walk-done, starts-before, ends-within}
 use Rattle.discovery.proofs.support.Statement.{statement}

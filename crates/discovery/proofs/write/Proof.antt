@@ -44,9 +44,13 @@ same-length c = search needs
 
 returns : tie.Need-returns
 returns c =
-    let start = c .before .before .before .before .before .before .before .before .before .before .before .before .before .before .before .before .before .before .before .before in
-    four-stores (start .args .list .now) _ _ _ _ (4 * start .args .listed) (start .args .c .template) (start .args .c .a) (start .args .c .b) (start .args .count)
-    (c .before .before .before .before .before .before .before .before .before .before .before .before .before .before .before .before .put .ensures) (c .before .before .before .before .before .before .before .before .before .before .before .put2 .ensures) (c .before .before .before .before .before .before .put3 .ensures) (c .before .before .put4 .ensures)
+    let fourth = c .before .before in
+    let third = fourth .before .before .before .before in
+    let second = third .before .before .before .before .before in
+    let first = second .before .before .before .before .before in
+    let args = first .before .before .before .before .args in
+    four-stores (args .list .now) _ _ _ _ (4 * args .listed) (args .c .template) (args .c .a) (args .c .b) (args .count)
+    (first .put .ensures) (second .put2 .ensures) (third .put3 .ensures) (fourth .put4 .ensures)
 
 pub write-spec : {M : Type 1} → statement M
 write-spec =
