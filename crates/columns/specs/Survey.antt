@@ -94,7 +94,7 @@ noted traces p (Entry.Event number activity) b =
 pub record Placed (traces : ℕ) (p : Progress) (number activity : ℕ) (b : Buffers) : Type 0 where
   pub byte : activity < 256
   pub few : traces + p .added ≤ most-traces
-  pub reach : p .last ≤ 16773120
+  pub reach : p .last ≤ longest-trace * most-traces
   pub goes-on : number ≡ p .number → 1 ≤ p .left
   pub few-after : traces + next-of p number .added ≤ most-traces
   pub some-trace : 1 ≤ traces + next-of p number .added

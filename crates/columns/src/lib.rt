@@ -1,11 +1,11 @@
 use eventlog::Refusal;
 use eventlog::Store;
-ghost use Prim.Native.Nat.{_+_, _≤_, _<_};
+ghost use Prim.Native.Nat.{_*_, _≤_, _<_};
 ghost use mathlib.Core.Path.{_≡_};
 ghost use mathlib.Core.List.{_∷_, []};
 ghost use lib.ListN.{length, take, drop};
 ghost use Rattle.eventlog.specs.Checks.{gives, reply};
-ghost use Rattle.eventlog.specs.Store.{memory};
+ghost use Rattle.eventlog.specs.Store.{most-traces, longest-trace, memory};
 ghost use Rattle.columns.specs.Field.{is-digit, field-of};
 ghost use Rattle.columns.specs.Scan.{scan-byte, finish, so-far};
 ghost use Rattle.columns.specs.Log.{line-of, lines, spelled};
@@ -220,7 +220,7 @@ fn fault(limits: Limits, p: Progress, number: u32, activity: u32) -> u8
 }
 
 fn next(p: Progress, number: u32) -> Progress
-    requires { ⌜ (p .added < 4096) × (p .last ≤ 16773120) × (number ≡ p .number → 1 ≤ p .left) ⌝ }
+    requires { ⌜ (p .added ≤ most-traces) × (p .last ≤ longest-trace * most-traces) × (number ≡ p .number → 1 ≤ p .left) ⌝ }
     ensures { λ r. ⌜ r ≡ next-of p number ⌝ }
 {
     if p.number == number {
