@@ -1,0 +1,97 @@
+/*
+ * Budgieleaf from C: a log of traces, and the constraints (DECLARE templates) that hold over it.
+ *
+ * Link with target/staticlib/libcapi.a, which `rt staticlib capi` makes (x86-64 Linux). The archive needs no other
+ * library, allocates nothing, keeps nothing between calls and prints nothing. Calls on different memory may run at the
+ * same time.
+ *
+ * Each function is proved against the contract in crates/capi/src/lib.rt. Nothing proves this header: it is written by
+ * hand after that source.
+ *
+ * WHAT IS LENT
+ *   store    2 numbers, the record of a log: store[0] is N, the number of declared activities; store[1] is the number
+ *            of traces kept. `budgieleaf_open` sets both. Keep it with its two buffers.
+ *   events   the kept activities, one byte each, trace after trace. `events_length` is the room, in bytes.
+ *   ends     the k-th number is the length of the first k traces together. `ends_length` is the room, in numbers.
+ *   answer   3 numbers that the call writes, refused or not: see each call.
+ * A length counts elements and not bytes. What is lent must be there in full, at its type's alignment, for the whole
+ * call, and what a call writes must not overlap anything else that it is lent. No pointer may be null, also where its
+ * length is 0. Any numbers and bytes may stand in what is lent: a record or a buffer that was damaged is refused with 1.
+ *
+ * WHAT IS RETURNED
+ * 0 where the call is accepted, else the number of the refusal; answer[0] is then its detail. The other numbers of
+ * `answer` are 0 unless said below. A refused call leaves the store, both buffers and the list as they were.
+ *
+ *    1  the log is not sound (see `budgieleaf_is_sound`)                                  detail 0
+ *    2  N is not 1 to 32                                                                  (open has no detail)
+ *    3  the threshold is not 1 to 1000                                                    detail 0
+ *    4  a line of the log is malformed                                                    detail: the line, from 1
+ *    5  a trace number is lower than the one on the line before                           detail: the line, from 1
+ *    6  an activity is not below N                                     detail: the line; for add, the place of one, from 1
+ *    7  a trace is longer than 4096                                    detail: the line, from 1; for add, 0
+ *    8  4095 traces are kept already, or as many as `ends` has room for  detail: the line, from 1; for add, 0
+ *    9  `events` has no room for the new activities                    detail: the line, from 1; for add, 0
+ *   10  the list is shorter than four numbers for each constraint to be listed   detail: how many constraints there are
+ *   11  no trace is kept                                                                  detail 0
+ */
+#ifndef BUDGIELEAF_H
+#define BUDGIELEAF_H
+
+#include <stdbool.h>
+#include <stddef.h>
+#include <stdint.h>
+
+#ifdef __cplusplus
+extern "C" {
+#endif
+
+/*
+ * An empty log for n declared activities, 0 to n - 1. Accepted: store is { n, 0 }; the buffers are not touched, and
+ * what stood in them does not matter. Refusals: 2.
+ */
+uint32_t budgieleaf_open(uint32_t n, uint32_t store[2]);
+
+/*
+ * Whether the log is sound: N is 1 to 32; at most 4095 traces are kept and no more than `ends` has room for; no end is
+ * below the one before it (0 before the first) or more than 4096 above it; the last end is at most events_length; each
+ * kept activity is below N. What the other calls leave of a sound log is sound. Reads the kept ends and events once.
+ */
+bool budgieleaf_is_sound(const uint32_t store[2], const uint8_t *events, size_t events_length, const uint32_t *ends,
+                         size_t ends_length);
+
+/*
+ * One trace more, of 0 to 4096 activities, behind those kept. Accepted: answer is { 0, 0, 0 }.
+ * Refusals, the first that holds: 1, 6, 7, 8, 9. For 6 the detail is the place of some activity that is not below N.
+ */
+uint32_t budgieleaf_add(uint32_t store[2], uint8_t *events, size_t events_length, uint32_t *ends, size_t ends_length,
+                        const uint8_t *trace, size_t trace_length, uint64_t answer[3]);
+
+/*
+ * The traces of a log in columns, behind those kept. A line has 10 bytes: the trace number (1 to 999999) in columns 1
+ * to 6, the activity (0 to 999) in 7 to 9, both decimal, right-justified, filled with blanks and without leading zeros;
+ * then a line feed. Neighbouring lines with one number are one trace, and a new number must be higher. Trace numbers
+ * are not kept, so the first line starts a new trace. An empty log adds nothing.
+ * Accepted: answer[0] is the number of traces added.
+ * Refusals: 1, and then those of the first line with a fault, the first that holds: 4, 5, 6, 7, 8, 9. Nothing of a
+ * refused log is kept.
+ */
+uint32_t budgieleaf_read(uint32_t store[2], uint8_t *events, size_t events_length, uint32_t *ends, size_t ends_length,
+                         const uint8_t *log, size_t log_length, uint64_t answer[3]);
+
+/*
+ * The constraints that enough of the kept traces fulfil: a count c meets a threshold t over R traces where
+ * 1000 * c >= t * R, so the threshold is in thousandths. Each takes four numbers of the list: template (1 to 24), a, b
+ * (for templates 1 to 8, a again) and the count of traces fulfilled, by template, then a, then b, rising. Numbers past
+ * the last constraint stay as they were. There are at most 14 * N * N - 6 * N constraints, so 4 * 14144 numbers are
+ * always enough.
+ * Accepted: answer is { constraints listed, constraints replayed after pruning, traces kept }.
+ * Refusals, the first that holds: 1, 3, 11, 10.
+ */
+uint32_t budgieleaf_find(const uint32_t store[2], const uint8_t *events, size_t events_length, const uint32_t *ends,
+                         size_t ends_length, uint32_t threshold, uint16_t *list, size_t list_length, uint64_t answer[3]);
+
+#ifdef __cplusplus
+}
+#endif
+
+#endif
