@@ -204,7 +204,10 @@ fn lists_about_8000_long() {
 
 #[test]
 fn rows_of_document_01() {
-    let said = |input: &[u8]| String::from_utf8(run(input, 1 << 20)).unwrap();
+    let said = |input: &[u8]| {
+        compare("row", input, 1 << 20, &output(input));
+        String::from_utf8(run(input, 1 << 20)).unwrap()
+    };
     let sample = said(b"  21000\n     1  0\n");
     assert_eq!(sample.lines().next(), Some("    15    18     1"));
     assert_eq!(sample.lines().count(), 16);

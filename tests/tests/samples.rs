@@ -1,11 +1,12 @@
 //! The samples: inputs as `samples::all` makes them, outputs as the independent implementation and the program give them.
 
 use budgieleaf_tests::oracle::findrules::output;
-use budgieleaf_tests::program::root;
+use budgieleaf_tests::program::{compare, root};
 use budgieleaf_tests::samples::all;
 use std::collections::BTreeSet;
 use std::fs::{read, read_dir};
 use std::path::PathBuf;
+use std::process::{Command, Stdio};
 
 fn stored(name: &str, ending: &str) -> (PathBuf, Vec<u8>) {
     let path = root().join("samples").join(format!("{name}.{ending}"));
@@ -37,18 +38,15 @@ fn each_refusal_that_the_program_can_reach_has_a_sample() {
     assert_eq!(refused, reachable);
 }
 
-#[cfg(feature = "built")]
 #[test]
 fn the_program_gives_the_outputs() {
     for (name, input) in all() {
-        budgieleaf_tests::program::compare(name, &input, 1 << 20, &stored(name, "out").1);
+        compare(name, &input, 1 << 20, &stored(name, "out").1);
     }
 }
 
-#[cfg(feature = "built")]
 #[test]
 fn the_script_runs_the_program_on_a_file_and_on_standard_input() {
-    use std::process::{Command, Stdio};
     let (path, _) = stored("season", "txt");
     let script = || Command::new(root().join("findrules"));
     let on_file = script().arg(&path).output().unwrap();
