@@ -1,4 +1,6 @@
 pub mod Bools
+pub mod Entries
+pub mod Following
 pub mod Places
 pub mod Ranges
 pub mod Summary

@@ -2,12 +2,12 @@
 -- Assumes nothing.
 use Prim.Native.Nat.{ℕ, _≤_, _<_}
 use native.Mathlib.Omega.{arith}
-use mathlib.Core.Path.{_≡_}
+use mathlib.Core.Path.{_≡_, refl, sym, _∙_}
 use mathlib.Core.Bool.{Bool, true, false}
-use borrow.Author.Tests.{le-leb, lt-leb}
+use borrow.Author.Tests.{le-leb, lt-leb, leb-true, leb-false}
 use lib.Dec.{leb}
-use Rattle.declare.specs.Logic.{_and_}
-use Rattle.declare.specs.Meaning.{between}
+use Rattle.declare.specs.Logic.{_and_, _or_, if_then_else_}
+use Rattle.declare.specs.Meaning.{between, activated-when}
 
 pub inside : (low n high : ℕ) → low ≤ n → n ≤ high → between low n high ≡ true
 inside low n high h k = simp (le-leb low n h, le-leb n high k)
@@ -16,8 +16,28 @@ pub below : (low n high : ℕ) → n < low → between low n high ≡ false
 below low n high h = simp (lt-leb low n h)
 
 and-false : (p : Bool) → p and false ≡ false
-and-false true = mathlib.Core.Path.refl
-and-false false = mathlib.Core.Path.refl
+and-false true = refl
+and-false false = refl
 
 pub above : (low n high : ℕ) → high < n → between low n high ≡ false
 above low n high h = simp (lt-leb n high h, and-false)
+
+-- a number above 24 is never activated
+pub unnamed : (template : ℕ) (p q : Bool) → 24 < template → activated-when template p q ≡ false
+unnamed template p q h =
+    simp (
+      above 1 template 10 (omega arith),
+      above 13 template 16 (omega arith),
+      above 17 template 19 (omega arith),
+      above 11 template 24 h,
+    )
+
+pub named : (template : ℕ) (p q : Bool) → activated-when template p q ≡ true → template < 32
+named template p q h = go (leb template 24) refl
+  where
+    go : (r : Bool) → leb template 24 ≡ r → template < 32
+    go true e = omega (arith, leb-true template 24 e)
+    go false e =
+        let z : false ≡ true = sym (unnamed template p q (leb-false template 24 e)) ∙ h in
+        let y : _≡_ {A = ℕ} 0 1 = cc in
+        omega arith

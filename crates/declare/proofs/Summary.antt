@@ -1,4 +1,4 @@
--- The replayer's state after a trace decides every template. Each law is one induction over the trace, from any state.
+-- The summary of a trace decides every template. Each law is one induction over the trace, from any summary.
 -- Assumes nothing.
 use Prim.Native.Nat.{ℕ, zero, suc, _+_, _≤_, _<_}
 use native.Mathlib.Omega.{arith}
@@ -9,17 +9,16 @@ use mathlib.Core.List.{List, [], _∷_, _++_, map, append-assoc, append-nil}
 use borrow.Author.Tests.{le-leb, lt-leb, leb-true, leb-false}
 use lib.Dec.{eqb, leb, leb·suc-suc, leb·zero}
 use lib.ListN.{getD, List·getD-map}
-use Rattle.declare.specs.declared.Replayer.{Replayer}
 use Rattle.declare.specs.declared.Verdict.{Verdict}
 use Rattle.declare.specs.Logic.{_and_, _or_, _implies_, if_then_else_}
-use Rattle.declare.specs.Meaning.{Test, Meaning, each-on, some-on, some, occurs, times, starts-with, ends-with, response, alternate-response, chain-response, precedence, alternate-precedence, chain-precedence, meanings, never, holds, activated, verdict}
-use Rattle.declare.specs.Summary.{fresh, stepped, after, answers, answer, active, summed}
+use Rattle.declare.specs.Meaning.{Test, Meaning, each-on, some-on, some, occurs, times, starts-with, ends-with, response, alternate-response, chain-response, precedence, alternate-precedence, chain-precedence, meanings, never, holds, activated-when, activated, verdict}
+use Rattle.declare.specs.Summary.{Summary, fresh, heard, stepped, after, answers, answer, summed}
 use Rattle.declare.proofs.Bools.{Expression, agree, by-cases}
 use Rattle.declare.proofs.Places.{occurs-on, occurs-cons, occurs-snoc, ends-snoc, b-before-a, unanswered, b-before-a-cons, unanswered-snoc}
 
 -- ## What has occurred
 
-one-after : (s : Replayer) (trace : List ℕ) → after s trace .one ≡ s .one || occurs (s .a) trace
+one-after : (s : Summary) (trace : List ℕ) → after s trace .one ≡ s .one || occurs (s .a) trace
 unfolding agree
 one-after s [] = by-cases 1 (λ p. p) (λ p. p || false) refl (s .one)
 one-after s (x ∷ trace) =
@@ -27,7 +26,7 @@ one-after s (x ∷ trace) =
     (one-after (stepped s x) trace
     ∙ by-cases 3 (λ p q r. (p || q) || r) (λ p q r. p || (q or r)) refl (s .one) (eqb x (s .a)) (occurs (s .a) trace))
 
-seen-after : (s : Replayer) (trace : List ℕ) → after s trace .seen ≡ s .seen || occurs (s .b) trace
+seen-after : (s : Summary) (trace : List ℕ) → after s trace .seen ≡ s .seen || occurs (s .b) trace
 unfolding agree
 seen-after s [] = by-cases 1 (λ p. p) (λ p. p || false) refl (s .seen)
 seen-after s (x ∷ trace) =
@@ -41,7 +40,7 @@ seen-after s (x ∷ trace) =
 abbrev at-each : ℕ → (List ℕ → Bool) → Test
 at-each a p before x after = eqb x a implies p after
 
-owed-after : (s : Replayer) (before trace : List ℕ)
+owed-after : (s : Summary) (before trace : List ℕ)
     → not (after s trace .owed) ≡ (s .owed implies occurs (s .b) trace) and each-on before trace (at-each (s .a) (occurs (s .b)))
 unfolding agree
 owed-after s before [] = by-cases 1 (λ p. not p) (λ p. (p implies false) and true) refl (s .owed)
@@ -57,7 +56,7 @@ owed-after s before (x ∷ trace) =
     (occurs (s .b) trace)
     (each-on (before ++ (x ∷ [])) trace (at-each (s .a) (occurs (s .b)))))
 
-alternate-after : (s : Replayer) (before trace : List ℕ)
+alternate-after : (s : Summary) (before trace : List ℕ)
     → not (after s trace .owed) && not (after s trace .doubled)
     ≡ not (s .doubled)
     and ((s .owed implies some trace (b-before-a (s .a) (s .b)))
@@ -78,7 +77,7 @@ alternate-after s before (x ∷ trace) =
     (some trace (b-before-a (s .a) (s .b)))
     (each-on (before ++ (x ∷ [])) trace (at-each (s .a) (λ after. some after (b-before-a (s .a) (s .b))))))
 
-chain-after : (s : Replayer) (before trace : List ℕ)
+chain-after : (s : Summary) (before trace : List ℕ)
     → not (after s trace .missed) && not (after s trace .last)
     ≡ not (s .missed) and ((s .last implies starts-with (s .b) trace) and each-on before trace (at-each (s .a) (starts-with (s .b))))
 unfolding agree
@@ -96,7 +95,7 @@ chain-after s before (x ∷ trace) =
     (starts-with (s .b) trace)
     (each-on (before ++ (x ∷ [])) trace (at-each (s .a) (starts-with (s .b))))
 
-later-after : (s : Replayer) (before trace : List ℕ)
+later-after : (s : Summary) (before trace : List ℕ)
     → not (after s trace .later)
     ≡ not (s .later)
     and ((s .one implies not (occurs (s .b) trace)) and each-on before trace (at-each (s .a) (λ after. not (occurs (s .b) after))))
@@ -115,7 +114,7 @@ later-after s before (x ∷ trace) =
     (occurs (s .b) trace)
     (each-on (before ++ (x ∷ [])) trace (at-each (s .a) (λ after. not (occurs (s .b) after)))))
 
-next-after : (s : Replayer) (before trace : List ℕ)
+next-after : (s : Summary) (before trace : List ℕ)
     → not (after s trace .next)
     ≡ not (s .next)
     and ((s .last implies not (starts-with (s .b) trace)) and each-on before trace (at-each (s .a) (λ after. not (starts-with (s .b) after))))
@@ -136,11 +135,11 @@ next-after s before (x ∷ trace) =
 -- ## Each b, and what came before it
 
 -- One law for the three: `ready` keeps up with a test of what came before, and each b that finds it false is noted in `bad`.
-module _ (a b : ℕ) (test : List ℕ → Bool) (ready bad : Replayer → Bool)
-    (noted : (s : Replayer) (x : ℕ) → s .b ≡ b → bad (stepped s x) ≡ bad s || (eqb x b && not (ready s)))
-    (keeps : (s : Replayer) (x : ℕ) (before : List ℕ) → s .a ≡ a → s .b ≡ b → ready s ≡ test before
+module _ (a b : ℕ) (test : List ℕ → Bool) (ready bad : Summary → Bool)
+    (noted : (s : Summary) (x : ℕ) → s .b ≡ b → bad (stepped s x) ≡ bad s || (eqb x b && not (ready s)))
+    (keeps : (s : Summary) (x : ℕ) (before : List ℕ) → s .a ≡ a → s .b ≡ b → ready s ≡ test before
     → ready (stepped s x) ≡ test (before ++ (x ∷ []))) where
-  noted-after : (s : Replayer) (before trace : List ℕ) → s .a ≡ a → s .b ≡ b → ready s ≡ test before
+  noted-after : (s : Summary) (before trace : List ℕ) → s .a ≡ a → s .b ≡ b → ready s ≡ test before
       → not (bad (after s trace)) ≡ not (bad s) and each-on before trace (λ before x after. eqb x b implies test before)
   unfolding agree
   noted-after s before [] d e h = by-cases 1 (λ p. not p) (λ p. not p and true) refl (bad s)
@@ -184,7 +183,7 @@ loose-after a b trace =
 -- ## How often, first and last
 
 -- the flags are those of a count
-abbrev Counts : Replayer → ℕ → Type 0
+abbrev Counts : Summary → ℕ → Type 0
 Counts s n = (s .one ≡ leb 1 n) × (s .two ≡ leb 2 n) × (s .three ≡ leb 3 n)
 
 weaker : (p q : Bool) → (p ≡ true → q ≡ true) → p || q ≡ q
@@ -205,7 +204,7 @@ more-add : (is-so : Bool) (n m : ℕ) → more is-so n + m ≡ n + more is-so m
 more-add true n m = omega arith
 more-add false n m = refl
 
-counts-step : (s : Replayer) (n x : ℕ) → Counts s n → Counts (stepped s x) (more (eqb x (s .a)) n)
+counts-step : (s : Summary) (n x : ℕ) → Counts s n → Counts (stepped s x) (more (eqb x (s .a)) n)
 unfolding agree
 counts-step s n x h =
     let is-a = eqb x (s .a) in (
@@ -217,13 +216,13 @@ counts-step s n x h =
       ap₂ (λ (p q : Bool). p || (is-a && q)) (h .2) (h .1) ∙ bound-more 2 n is-a,
     )
 
-counts-after : (s : Replayer) (n : ℕ) (trace : List ℕ) → Counts s n → Counts (after s trace) (n + times (s .a) trace)
+counts-after : (s : Summary) (n : ℕ) (trace : List ℕ) → Counts s n → Counts (after s trace) (n + times (s .a) trace)
 counts-after s n [] h = rw add-zero h
 counts-after s n (x ∷ trace) h =
     rw (more-add (eqb x (s .a)) n (times (s .a) trace)) at
     (counts-after (stepped s x) (more (eqb x (s .a)) n) trace (counts-step s n x h))
 
-first-after : (s : Replayer) (trace : List ℕ) → after s trace .first ≡ s .first || (not (s .started) && starts-with (s .a) trace)
+first-after : (s : Summary) (trace : List ℕ) → after s trace .first ≡ s .first || (not (s .started) && starts-with (s .a) trace)
 unfolding agree
 first-after s [] = by-cases 2 (λ f t. f) (λ f t. f || (not t && false)) refl (s .first) (s .started)
 first-after s (x ∷ trace) =
@@ -234,7 +233,7 @@ first-after s (x ∷ trace) =
     (eqb x (s .a))
     (starts-with (s .a) trace)
 
-last-after : (s : Replayer) (before trace : List ℕ) → s .last ≡ ends-with (s .a) before → after s trace .last ≡ ends-with (s .a) (before ++ trace)
+last-after : (s : Summary) (before trace : List ℕ) → s .last ≡ ends-with (s .a) before → after s trace .last ≡ ends-with (s .a) (before ++ trace)
 last-after s before [] h = rw append-nil h
 last-after s before (x ∷ trace) h =
     last-after (stepped s x) (before ++ (x ∷ [])) trace (sym (ends-snoc (s .a) x before)) ∙ rw append-assoc
@@ -253,7 +252,7 @@ _then_ : {x y : Bool} {xs ys : List Bool} → x ≡ y → xs ≡ ys → x ∷ xs
 p then q = ap₂ _∷_ p q
 
 module _ (a b : ℕ) (trace : List ℕ) where
-  end : Replayer
+  end : Summary
   end = after (fresh a b) trace
 
   counts : Counts end (times a trace)
@@ -310,21 +309,13 @@ module _ (a b : ℕ) (trace : List ℕ) where
       ap (λ (l : List Bool). getD l template false) answers-right
       ∙ List·getD-map (λ (m : Meaning). m a b trace) (never ∷ meanings) template never
 
-  active-right : (template : ℕ) → active end template ≡ activated template a b trace
-  unfolding active activated agree end
-  active-right template =
-      simp (
-        one-after (fresh a b) trace,
-        seen-after (fresh a b) trace,
-        by-cases 2 (λ p q. p || q) (λ p q. p or q) refl (occurs a trace) (occurs b trace),
-      )
-
--- after any trace, for every template number and every a and b, the verdict read off the state is the verdict of the definitions
+-- after any trace, for every template number and every a and b, the verdict read off the summary is the verdict of the definitions
 pub decides : (template a b : ℕ) (trace : List ℕ) → summed (after (fresh a b) trace) template ≡ verdict template a b trace
-unfolding summed verdict end
-decides template a b trace = simp (active-right a b trace template, answer-right a b trace template)
+unfolding summed verdict activated end
+decides template a b trace =
+    simp (one-after (fresh a b) trace, seen-after (fresh a b) trace, answer-right a b trace template)
 
 -- one event more
-pub after-snoc : (s : Replayer) (trace : List ℕ) (x : ℕ) → after s (trace ++ (x ∷ [])) ≡ stepped (after s trace) x
+pub after-snoc : (s : Summary) (trace : List ℕ) (x : ℕ) → after s (trace ++ (x ∷ [])) ≡ stepped (after s trace) x
 after-snoc s [] x = refl
 after-snoc s (y ∷ trace) x = after-snoc (stepped s y) trace x

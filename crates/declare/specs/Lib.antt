@@ -1,4 +1,5 @@
 pub mod Logic
 pub mod Meaning
 pub mod Summary
+pub mod States
 pub mod Examples

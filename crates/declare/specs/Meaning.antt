@@ -111,13 +111,16 @@ abbrev pub between : ℕ → ℕ → ℕ → Bool
 between low n high = leb low n and leb n high
 
 -- 1 to 10 always; 13 to 16 when a occurs; 17 to 19 when b occurs; 11, 12 and 20 to 24 when a or b occurs
-unfoldable pub activated : ℕ → Meaning
-activated template a b trace =
+abbrev pub activated-when : ℕ → Bool → Bool → Bool
+activated-when template a-occurs b-occurs =
     if between 1 template 10 then true
-    else if between 13 template 16 then occurs a trace
-    else if between 17 template 19 then occurs b trace
-    else if between 11 template 24 then occurs a trace or occurs b trace
+    else if between 13 template 16 then a-occurs
+    else if between 17 template 19 then b-occurs
+    else if between 11 template 24 then a-occurs or b-occurs
     else false
+
+unfoldable pub activated : ℕ → Meaning
+activated template a b trace = activated-when template (occurs a trace) (occurs b trace)
 
 -- the constraint is activated and holds
 unfoldable pub fulfilled : ℕ → Meaning

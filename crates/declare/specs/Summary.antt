@@ -1,17 +1,73 @@
--- What a replayer knows of a trace: its state before the first event, after each event, and the verdict that is read off it.
+-- The summary of a trace: before the first event, after each event, and the verdict that is read off it.
 -- Assumes nothing.
 use Prim.Native.Nat.{ℕ}
 use mathlib.Core.Bool.{Bool, true, false, not, _&&_, _||_}
 use mathlib.Core.List.{List, [], _∷_}
-use lib.Dec.{eqb, leb, ltb}
+use lib.Dec.{eqb}
 use lib.ListN.{getD}
 use Rattle.declare.specs.declared.Verdict.{Verdict}
 use Rattle.declare.specs.declared.Verdict.the-variants.{Fulfilled, NotActivated, Violated}
-use Rattle.declare.specs.declared.Replayer.{Replayer}
-use Rattle.declare.specs.Logic.{_or_, if_then_else_}
-use Rattle.declare.specs.Meaning.{between}
+use Rattle.declare.specs.Logic.{if_then_else_}
+use Rattle.declare.specs.Meaning.{activated-when}
 
-abbrev pub fresh : ℕ → ℕ → Replayer
+-- What the events so far tell of the activities a and b.
+pub record Summary : Type 0 where
+  pub a : ℕ
+  pub b : ℕ
+  -- a has occurred: at least once, twice, three times
+  pub one : Bool
+  pub two : Bool
+  pub three : Bool
+  -- b has occurred
+  pub seen : Bool
+  -- there was an event; the first was a; the last was a
+  pub started : Bool
+  pub first : Bool
+  pub last : Bool
+  -- some a has no b after it
+  pub owed : Bool
+  -- an a came before the b that an earlier a was owed
+  pub doubled : Bool
+  -- right after an a came something else than b
+  pub missed : Bool
+  -- a b came with no a before it; with none owed it; with none just before it
+  pub early : Bool
+  pub bare : Bool
+  pub loose : Bool
+  -- a b came after an a; right after an a
+  pub later : Bool
+  pub next : Bool
+
+-- the summary with these flags, in their order
+abbrev pub summary : ℕ → ℕ → List Bool → Summary
+summary a b flags =
+    record {
+      a = a;
+      b = b;
+      one = getD flags 0 false;
+      two = getD flags 1 false;
+      three = getD flags 2 false;
+      seen = getD flags 3 false;
+      started = getD flags 4 false;
+      first = getD flags 5 false;
+      last = getD flags 6 false;
+      owed = getD flags 7 false;
+      doubled = getD flags 8 false;
+      missed = getD flags 9 false;
+      early = getD flags 10 false;
+      bare = getD flags 11 false;
+      loose = getD flags 12 false;
+      later = getD flags 13 false;
+      next = getD flags 14 false;
+    }
+
+-- the flags of a summary, in their order
+abbrev pub flags-of : Summary → List Bool
+flags-of s =
+    s .one ∷ s .two ∷ s .three ∷ s .seen ∷ s .started ∷ s .first ∷ s .last ∷ s .owed ∷ s .doubled ∷ s .missed ∷ s .early ∷ s .bare ∷ s .loose ∷ s .later ∷ s .next ∷ []
+
+-- before the first event
+abbrev pub fresh : ℕ → ℕ → Summary
 fresh a b =
     record {
       a = a;
@@ -33,11 +89,9 @@ fresh a b =
       next = false;
     }
 
--- the state after one more event
-abbrev pub stepped : Replayer → ℕ → Replayer
-stepped s event =
-    let is-a = eqb event (s .a) in
-    let is-b = eqb event (s .b) in
+-- after one more event, which is a or not, and b or not
+abbrev pub heard : Summary → Bool → Bool → Summary
+heard s is-a is-b =
     record {
       a = s .a;
       b = s .b;
@@ -58,13 +112,16 @@ stepped s event =
       next = s .next || (is-b && s .last);
     }
 
--- the state after a trace
-abbrev pub after : Replayer → List ℕ → Replayer
+abbrev pub stepped : Summary → ℕ → Summary
+stepped s event = heard s (eqb event (s .a)) (eqb event (s .b))
+
+-- after a trace
+abbrev pub after : Summary → List ℕ → Summary
 after s [] = s
 after s (event ∷ trace) = after (stepped s event) trace
 
 -- whether each template holds, by its number, from 0 on
-abbrev pub answers : Replayer → List Bool
+abbrev pub answers : Summary → List Bool
 answers s =
     false ∷
     s .one ∷
@@ -93,19 +150,11 @@ answers s =
     not (s .next) ∷
     []
 
-unfoldable pub answer : Replayer → ℕ → Bool
+unfoldable pub answer : Summary → ℕ → Bool
 answer s template = getD (answers s) template false
 
-unfoldable pub active : Replayer → ℕ → Bool
-active s template =
-    if between 1 template 10 then true
-    else if between 13 template 16 then s .one
-    else if between 17 template 19 then s .seen
-    else if between 11 template 24 then s .one || s .seen
-    else false
-
--- the verdict that a state gives
-unfoldable pub summed : Replayer → ℕ → Verdict
-unfolding answer active
+-- the verdict that a summary gives
+unfoldable pub summed : Summary → ℕ → Verdict
+unfolding answer
 summed s template =
-    if active s template then (if answer s template then Fulfilled else Violated) else NotActivated
+    if activated-when template (s .one) (s .seen) then (if answer s template then Fulfilled else Violated) else NotActivated

@@ -1,7 +1,11 @@
 // DECLARE templates on one trace (document 01: a run): the replayer, and the verdict for a template and two activities.
+mod tables;
+
 ghost use mathlib.Core.Path.{_≡_};
-ghost use Rattle.declare.specs.Meaning.{verdict};
-ghost use Rattle.declare.specs.Summary.{fresh, stepped, answers, answer, active, summed};
+ghost use Prim.Native.Nat.{_<_};
+ghost use lib.ListN.{getD};
+ghost use Rattle.declare.specs.Meaning.{verdict, activated-when};
+ghost use Rattle.declare.specs.States.{bit as bit-of, start, led, led-all, told as told-by, Leads, Tells};
 
 // What a trace is for a constraint (document 01: a run for a rule): fulfilled, not activated (01: idle), or violated (01: broken).
 pub enum Verdict {
@@ -10,166 +14,113 @@ pub enum Verdict {
     Violated,
 }
 
-// The activities a and b of a constraint, and what the events so far tell of them: enough to decide all 24 templates.
+// The activities a and b of a constraint, and the number of a state: the summary of the events so far, which decides all 24 templates.
 pub struct Replayer {
-    pub a: u8,
-    pub b: u8,
-    // a has occurred: at least once, twice, three times
-    pub one: bool,
-    pub two: bool,
-    pub three: bool,
-    // b has occurred
-    pub seen: bool,
-    // there was an event; the first was a; the last was a
-    pub started: bool,
-    pub first: bool,
-    pub last: bool,
-    // some a has no b after it
-    pub owed: bool,
-    // an a came before the b that an earlier a was owed
-    pub doubled: bool,
-    // right after an a came something else than b
-    pub missed: bool,
-    // a b came with no a before it; with none owed it; with none just before it
-    pub early: bool,
-    pub bare: bool,
-    pub loose: bool,
-    // a b came after an a; right after an a
-    pub later: bool,
-    pub next: bool,
+    a: u8,
+    b: u8,
+    state: u8,
+}
+
+// The table by which a replayer goes from state to state. Whoever replays many traces makes it once.
+pub fn next_states() -> [u8; 1024]
+    ensures { λ r. ⌜ Leads r ⌝ }
+{
+    tables::NEXT
+}
+
+// The table of what each state tells of every template.
+pub fn state_marks() -> [u32; 256]
+    ensures { λ r. ⌜ Tells r ⌝ }
+{
+    tables::MARKS
+}
+
+fn bit(word: u32, place: u8) -> bool
+    requires { ⌜ place < 32 ⌝ }
+    ensures { λ r. ⌜ r ≡ bit-of word place ⌝ }
+{
+    (word >> place) % 2 == 1
+}
+
+fn activated(template: u8, a_occurs: bool, b_occurs: bool) -> bool
+    ensures { λ r. ⌜ r ≡ activated-when template «a_occurs» «b_occurs» ⌝ }
+{
+    match template {
+        1..=10 => true,
+        13..=16 => a_occurs,
+        17..=19 => b_occurs,
+        11..=24 => a_occurs | b_occurs,
+        _ => false,
+    }
+}
+
+// The verdict that a state's marks give.
+fn told(marks: u32, template: u8) -> Verdict
+    ensures { λ r. ⌜ r ≡ told-by marks template ⌝ }
+{
+    if !activated(template, bit(marks, 1), bit(marks, 25)) {
+        return Verdict::NotActivated;
+    }
+    if bit(marks, template) {
+        Verdict::Fulfilled
+    } else {
+        Verdict::Violated
+    }
 }
 
 impl Replayer {
     // Before the first event.
     pub fn new(a: u8, b: u8) -> Replayer
-        ensures { λ r. ⌜ r ≡ fresh a b ⌝ }
+        ensures { λ r. ⌜ r ≡ start a b ⌝ }
     {
-        Replayer {
-            a,
-            b,
-            one: false,
-            two: false,
-            three: false,
-            seen: false,
-            started: false,
-            first: false,
-            last: false,
-            owed: false,
-            doubled: false,
-            missed: false,
-            early: false,
-            bare: false,
-            loose: false,
-            later: false,
-            next: false,
-        }
+        Replayer { a, b, state: 0 }
     }
 
-    // Consumes one event. Each line reads the state before it, so what is used later is written later.
-    pub fn step(mut self, event: u8) -> Replayer
-        ensures { λ r. ⌜ r ≡ stepped self event ⌝ }
+    // Consumes one event.
+    pub fn step(mut self, next: &[u8; 1024], event: u8) -> Replayer
+        ensures { λ r. ⌜ r ≡ led (now (next .entry)) self event ⌝ }
     {
         let is_a = event == self.a;
         let is_b = event == self.b;
-        self.doubled = self.doubled | (is_a & (self.owed & !is_b));
-        self.missed = self.missed | (self.last & !is_b);
-        self.early = self.early | (is_b & !self.one);
-        self.bare = self.bare | (is_b & !self.owed);
-        self.loose = self.loose | (is_b & !self.last);
-        self.later = self.later | (is_b & self.one);
-        self.next = self.next | (is_b & self.last);
-        self.owed = is_a | (self.owed & !is_b);
-        self.first = self.first | (is_a & !self.started);
-        self.started = true;
-        self.last = is_a;
-        self.seen = self.seen | is_b;
-        self.three = self.three | (is_a & self.two);
-        self.two = self.two | (is_a & self.one);
-        self.one = self.one | is_a;
+        let at = self.state as usize * 4 + (is_a as usize + 2 * is_b as usize);
+        self.state = next[at];
         self
     }
 
-    // Whether each template holds of the events so far, by its number; number 0 holds of none.
-    fn answers(self) -> [bool; 25]
-        ensures { λ r. ⌜ r ≡ answers self ⌝ }
-    {
-        [
-            false,
-            self.one,
-            self.two,
-            self.three,
-            !self.one,
-            !self.two,
-            !self.three,
-            self.first,
-            self.last,
-            self.one | self.seen,
-            (self.one | self.seen) & !(self.one & self.seen),
-            (self.one & self.seen) | !(self.one | self.seen),
-            !(self.one & self.seen),
-            !self.one | self.seen,
-            !self.owed,
-            !self.owed & !self.doubled,
-            !self.missed & !self.last,
-            !self.early,
-            !self.bare,
-            !self.loose,
-            !self.owed & !self.early,
-            (!self.owed & !self.doubled) & !self.bare,
-            (!self.missed & !self.last) & !self.loose,
-            !self.later,
-            !self.next,
-        ]
-    }
-
-    // Whether a template holds of the events so far; a number outside 1 to 24 holds of none.
-    fn answer(self, template: u8) -> bool
-        ensures { λ r. ⌜ r ≡ answer self template ⌝ }
-    {
-        if 25 <= template {
-            return false;
-        }
-        let table = self.answers();
-        table[template as usize]
-    }
-
-    // Whether the events so far activate a template.
-    fn active(self, template: u8) -> bool
-        ensures { λ r. ⌜ r ≡ active self template ⌝ }
-    {
-        match template {
-            1..=10 => true,
-            13..=16 => self.one,
-            17..=19 => self.seen,
-            11..=24 => self.one | self.seen,
-            _ => false,
-        }
-    }
-
     // The verdict on the events so far.
-    pub fn verdict(self, template: u8) -> Verdict
-        ensures { λ r. ⌜ r ≡ summed self template ⌝ }
+    pub fn verdict(self, marks: &[u32; 256], template: u8) -> Verdict
+        ensures { λ r. ⌜ r ≡ told-by (getD (now (marks .entry)) (self .state) 0) template ⌝ }
     {
-        if !self.active(template) {
-            return Verdict::NotActivated;
-        }
-        if self.answer(template) {
-            Verdict::Fulfilled
-        } else {
-            Verdict::Violated
-        }
+        let at = self.state as usize;
+        told(marks[at], template)
     }
 }
 
-// The verdict on a whole trace, which is read once, front to back. Any bytes and any numbers.
-pub fn replay(template: u8, a: u8, b: u8, trace: &[u8]) -> Verdict
-    ensures { λ r. ⌜ r ≡ verdict template a b (now (trace .entry)) ⌝ }
+// The verdict on a whole trace by these tables. The trace is read once, front to back.
+pub fn replay_by(
+    next: &[u8; 1024],
+    marks: &[u32; 256],
+    template: u8,
+    a: u8,
+    b: u8,
+    trace: &[u8],
+) -> Verdict
+    ensures { λ r. ⌜ r ≡ told-by (getD (now (marks .entry)) (led-all (now (next .entry)) (start a b) (now (trace .entry)) .state) 0) template ⌝ }
 {
     let mut state = Replayer::new(a, b);
     let mut at = 0;
     while at < trace.len() {
-        state = state.step(trace[at]);
+        state = state.step(next, trace[at]);
         at += 1;
     }
-    state.verdict(template)
+    state.verdict(marks, template)
+}
+
+// The verdict on a whole trace. Any bytes and any numbers.
+pub fn replay(template: u8, a: u8, b: u8, trace: &[u8]) -> Verdict
+    ensures { λ r. ⌜ r ≡ verdict template a b (now (trace .entry)) ⌝ }
+{
+    let next = next_states();
+    let marks = state_marks();
+    replay_by(&next, &marks, template, a, b, trace)
 }

@@ -6,8 +6,9 @@ ghost use mathlib.Core.List.{[], _∷_};
 ghost use lib.ListN.{set};
 ghost use lib.Seq.{sets};
 ghost use Rattle.declare.specs.Meaning.{occurs as occurs-in};
+ghost use Rattle.declare.specs.States.{Leads, Tells};
 ghost use Rattle.eventlog.specs.Store.{memory, sound, kept};
-ghost use Rattle.discovery.specs.Constraints.{class-of, counts-for, support as support-of, survives, constraints};
+ghost use Rattle.discovery.specs.Constraints.{class-of, counts-for, support as support-of, survives, fulfilments, constraints};
 ghost use Rattle.discovery.specs.Constraints.{meets as meets-test, pairs as pairs-test};
 ghost use Rattle.discovery.specs.Calls.{Finds};
 ghost use Rattle.discovery.specs.Passes.{Replays, Passes, Within, cell, row, grid, none-yet};
@@ -153,8 +154,41 @@ fn write(list: &mut [u16], listed: u32, c: Constraint, count: u16)
     put(list, at + 3, count);
 }
 
-// Replays a constraint over the log, each trace as the part of the events from the end before to its own. Only what pruning keeps
-// may be replayed: the second clause.
+// How many kept traces are fulfilled for the constraint, by the replayer's tables. Each trace is handed on as the part of the events
+// from the end before to its own.
+fn fulfilled_by(
+    next: &[u8; 1024],
+    marks: &[u32; 256],
+    store: Store,
+    events: &[u8],
+    ends: &[u32],
+    c: Constraint,
+) -> u32
+    requires { ⌜ Leads (now next) ⌝ }
+    requires { ⌜ Tells (now marks) ⌝ }
+    requires { ⌜ sound (memory store (now events) (now ends)) ≡ true ⌝ }
+    ensures { λ r. ⌜ r ≡ fulfilments (kept (memory store (now (events .entry)) (now (ends .entry)))) c ⌝ }
+{
+    let traces = store.traces as usize;
+    let mut fulfilled: u32 = 0;
+    let mut from: usize = 0;
+    let mut k: usize = 0;
+    while k < traces {
+        let to = ends[k] as usize;
+        let verdict = declare::replay_by(next, marks, c.template, c.a, c.b, &events[from..to]);
+        match verdict {
+            Verdict::Fulfilled => fulfilled += 1,
+            Verdict::NotActivated => {}
+            Verdict::Violated => {}
+        }
+        from = to;
+        k += 1;
+    }
+    fulfilled
+}
+
+// Replays a constraint over the log. Only what pruning keeps may be replayed: the second clause. The tables are made once for all its
+// traces.
 fn replay(
     store: Store,
     events: &[u8],
@@ -168,21 +202,9 @@ fn replay(
     requires { ⌜ replayed ≤ 65535 ⌝ }
     ensures { λ r. ⌜ Replays (kept (memory store (now (events .entry)) (now (ends .entry)))) c replayed r ⌝ }
 {
-    let traces = store.traces as usize;
-    let mut fulfilled: u32 = 0;
-    let mut from: usize = 0;
-    let mut k: usize = 0;
-    while k < traces {
-        let to = ends[k] as usize;
-        let verdict = declare::replay(c.template, c.a, c.b, &events[from..to]);
-        match verdict {
-            Verdict::Fulfilled => fulfilled += 1,
-            Verdict::NotActivated => {}
-            Verdict::Violated => {}
-        }
-        from = to;
-        k += 1;
-    }
+    let next = declare::next_states();
+    let marks = declare::state_marks();
+    let fulfilled = fulfilled_by(&next, &marks, store, events, ends, c);
     Replayed {
         fulfilled,
         replayed: replayed + 1,
