@@ -3,21 +3,23 @@
 use Prim.Native.Nat.{ℕ, _+_, _≤_}
 use mathlib.Core.Path.{_≡_, refl, sym, ap, _∙_}
 use mathlib.Core.Bool.{Bool, true, false, not}
-use mathlib.Core.List.{List, [], _∷_}
+use mathlib.Core.List.{List, [], _∷_, _++_}
 use native.Mathlib.Omega.{arith}
 use lib.ListN.{length}
 use borrow.Author.Tests.{not-false}
 use Rattle.eventlog.specs.declared.Store.{Store}
 use Rattle.eventlog.specs.declared.Refusal.{Refusal}
 use Rattle.eventlog.specs.Checks.{Reply, gives, refused, reply}
-use Rattle.eventlog.specs.Store.{Memory, memory, most-traces, sound}
+use Rattle.eventlog.specs.Store.{Memory, memory, most-traces, sound, kept}
+use Rattle.eventlog.specs.Calls.{room}
 use Rattle.columns.specs.declared.ReadAnswer.{ReadAnswer}
+use Rattle.columns.specs.declared.ReadResult.{ReadResult}
 use Rattle.columns.specs.Log.{lines, log-checks, spelled}
 use Rattle.columns.specs.Survey.{survey-of, accepted, limits-of, at-start, Buffers, buffers, recorded}
 use Rattle.columns.specs.Calls.{onto, checks-of-read, with-traces, read-said, Reads}
 use Rattle.eventlog.proofs.Adding.{none-fail, given-new, refused-old}
 use Rattle.columns.proofs.Agree.{at-first, numbered-lines}
-use Rattle.columns.proofs.Laws.{within-start, none-fail-reply, given-accepted, survey-said, fitting-accepted}
+use Rattle.columns.proofs.Laws.{within-start, none-fail-reply, given-accepted, survey-said, fitting-accepted, sound-read, kept-read, room-read}
 use Rattle.columns.proofs.Records.{buffers-of, written}
 use Rattle.columns.proofs.Traces.{Fitting, count-traces, activities-traces}
 
@@ -89,3 +91,29 @@ module _ (m : Memory) (log : List ℕ) where
         says = says;
         leaves = e ∙ sym (given-new (checks-of-read m log) (length (spelled log) ∷ []) (added ∷ []) (with-traces m (spelled log)) m (sym says));
       }
+
+-- ## What read's contract gives to its callers
+
+-- sound, with the same room, keeping the old traces and then the log's, in order
+pub record Grown (m : Memory) (log : List ℕ) (after : Memory) : Type 0 where
+  pub still-sound : sound after ≡ true
+  pub same-room : room after ≡ room m
+  pub keeps : kept after ≡ kept m ++ spelled log
+
+module _ (m : Memory) (log : List ℕ) (result : ReadResult) (events ends : List ℕ) (reads : Reads m log result events ends) where
+  pub after-added : (values : List ℕ) → read-said (result .answer) ≡ gives values → Grown m log (memory (result .store) events ends)
+  after-added values e =
+      let given = sym (reads .says) ∙ e in
+      let none = none-fail (checks-of-read m log) (length (spelled log) ∷ []) values given in
+      let h = not-false (sound m) (none .0) in
+      rw (reads .leaves ∙ given-new (checks-of-read m log) (length (spelled log) ∷ []) values (with-traces m (spelled log)) m given)
+      (record {
+        still-sound = sound-read m log h (none .1);
+        same-room = room-read m log;
+        keeps = kept-read m log h (none .1);
+      })
+
+  pub after-refused : (number detail : ℕ) → read-said (result .answer) ≡ refused number detail → memory (result .store) events ends ≡ m
+  after-refused number detail e =
+      reads .leaves
+      ∙ refused-old (checks-of-read m log) (length (spelled log) ∷ []) number detail (with-traces m (spelled log)) m (sym (reads .says) ∙ e)

@@ -44,7 +44,7 @@ returns c =
     let s = c .before .before .before .before .before .before .before .before .before .before .before .before .before .before .before .before .before in
     let called = c .before .before .before .before .before .«record» in
     appended (old s) (s .args .log .now) _ (buffers (called .last .1 .1 .0) (called .last .1 .1 .1 .0)) (s .pre)
-    (called .ensures ∙ rw (c .before .before .before .before .before .before .before .before .before .before .before .limits-in .ensures, c .before .before .before .before .before .before .before .before .start-in .ensures))
+    (rw (c .before .before .before .before .before .before .before .before .before .before .before .limits-in .ensures, c .before .before .before .before .before .before .before .before .start-in .ensures) at (called .ensures))
 
 pub append-spec : {M : Type 1} → statement M
 append-spec =

@@ -4,8 +4,6 @@ use Prim.Native.Nat.{ℕ, _+_, _-_, _≤_}
 use mathlib.Core.Path.{_≡_, refl, sym, ap, _∙_}
 use native.Mathlib.Omega.{arith}
 use lib.ListN.{length, take, drop}
-use Rattle.columns.specs.declared.Entry.{Entry}
-use Rattle.columns.specs.declared.Progress.{Progress}
 use Rattle.columns.specs.Log.{line-of, lines}
 use Rattle.columns.specs.Survey.{Within, entry-of, survey-of, accepted, recorded, Buffers, buffers, moved, noted}
 use Rattle.columns.proofs.Lines.{lines-end}
@@ -51,20 +49,17 @@ loop-again c =
     let at = c .before .before .before .before .before .before .before .before .before .loop in
     let here = c .before .before .before .before .before .before .before .before .loop-test .taken in
     let entry = entry-of (line-of (take 10 (drop (at .at) log))) in
-    let rest = lines (drop (at .at + 10) log) in
     let read : c .before .before .before .before .before .before .before .line-at .result ≡ entry = c .before .before .before .before .before .before .before .line-at .ensures in
     let called = c .before .before .before .before .note in
     let old = buffers (at .events) (at .ends) in
     let new = buffers (called .last .1 .1 .1 .0) (called .last .1 .1 .1 .1 .0) in
-    let step : called .result ≡ moved (at .p) entry = called .ensures .0 ∙ ap (moved (at .p)) read in
+    let step : called .result ≡ moved (at .p) entry = rw read at (called .ensures .0) in
     let written : new ≡ noted (limits .traces) (at .p) entry old =
-    called .ensures .1 ∙ ap (λ (e : Entry). noted (limits .traces) (at .p) e old) read in
+    rw read at (called .ensures .1) in
     let lengths = noted-lengths (limits .traces) (at .p) entry old in (
       rw step (within-at limits (at .p) (at .inv .1 .0) log (at .at) here (at .inv .0) (at .inv .1 .1)),
       (at .inv .1 .0 + 1, rw step (accepted-at limits (at .p) (at .inv .1 .0) log (at .at) here (at .inv .0) (at .inv .1 .1))),
-      ap (λ (q : Progress). recorded (limits .traces) q new rest) step
-          ∙ ap (λ (b : Buffers). recorded (limits .traces) (moved (at .p) entry) b rest) written
-          ∙ sym (recorded-at limits (at .p) (at .inv .1 .0) log (at .at) here (limits .traces) old) ∙ at .inv .2,
+      rw (step, written) (sym (recorded-at limits (at .p) (at .inv .1 .0) log (at .at) here (limits .traces) old) ∙ at .inv .2),
       ap (λ (b : Buffers). length (b .events)) written ∙ lengths .0 ∙ at .inv .3,
       ap (λ (b : Buffers). length (b .ends)) written ∙ lengths .1 ∙ at .inv .4,
     )
