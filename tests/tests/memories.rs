@@ -6,6 +6,7 @@ use budgieleaf_tests::capi::Archive;
 use budgieleaf_tests::gen;
 use budgieleaf_tests::memories::{self, UNSOUND};
 use budgieleaf_tests::oracle::ledger::refusal;
+use budgieleaf_tests::oracle::memory::is_sound;
 use budgieleaf_tests::play::{compare, Call, Lent, Memory, Said};
 use budgieleaf_tests::rng::{cases, Rng};
 
@@ -25,8 +26,10 @@ fn some_calls(rng: &mut Rng, memory: &Memory) -> Vec<Call> {
     vec![Call::Add(trace), Call::Read(log), Call::Find(threshold, list)]
 }
 
-/// Each call on a copy of the memory.
+/// Soundness, and each call on a copy of the memory.
 fn check(rng: &mut Rng, name: &str, memory: &Memory) -> Vec<Said> {
+    let (events, ends) = (memory.events.get(), memory.ends.get());
+    assert_eq!(Archive::is_sound(memory.record, events, ends), is_sound(memory.record, events, ends), "{name}: {memory:?}");
     let calls = some_calls(rng, memory);
     calls.iter().map(|call| compare(&mut Archive, &mut memory.clone(), call).unwrap_or_else(|e| panic!("{name}: {e}"))).collect()
 }
