@@ -2,4 +2,3 @@ pub mod Logic
 pub mod Meaning
 pub mod Summary
 pub mod States
-pub mod Examples

@@ -1,4 +1,5 @@
 -- The replayer's states and tables: each state is a summary's flags, one table leads from state to state, another tells what a state says.
+-- Nothing here has to be believed: proofs/Following.antt shows that it comes to `verdict`.
 -- Assumes nothing.
 use Prim.Native.Nat.{ℕ, zero, suc, _+_, _*_, _/_, _%_, _^_, _<_}
 use mathlib.Core.Path.{_≡_}

@@ -1,4 +1,5 @@
--- The summary of a trace: before the first event, after each event, and the verdict that is read off it.
+-- The summary of a trace: before the first event, after each event, and the verdict that is read off it. Nothing here has to be believed:
+-- proofs/Summary.antt shows that it comes to `verdict`.
 -- Assumes nothing.
 use Prim.Native.Nat.{ℕ}
 use mathlib.Core.Bool.{Bool, true, false, not, _&&_, _||_}
