@@ -72,9 +72,10 @@ impl Replay for Summary {
 
 const STATES: usize = 16;
 
-/// For each template its automaton over the letters a, b and other; state 0 is the start.
+/// For each template its automaton over the letters other, a and b, which are 0, 1 and 2. State 0 is the start. A state is kept as
+/// four times its number, so that it and a letter add up to the next one's place.
 pub struct Automaton {
-    next: [[[u8; 4]; STATES]; 25],
+    next: [[u8; 4 * STATES]; 25],
     fulfilled: [[bool; STATES]; 25],
 }
 
@@ -101,11 +102,11 @@ impl Automaton {
     /// For one-step templates the letter b does not come.
     #[allow(clippy::new_without_default)]
     pub fn new() -> Automaton {
-        let mut made = Automaton { next: [[[0; 4]; STATES]; 25], fulfilled: [[false; STATES]; 25] };
+        let mut made = Automaton { next: [[0; 4 * STATES]; 25], fulfilled: [[false; STATES]; 25] };
         let suffixes = words(4);
         for template in 1..=24 {
-            let letters: &[u8] = if template <= 8 { &[0, 2] } else { &[0, 1, 2] };
-            let told = |w: &[u8]| -> Vec<Verdict> { suffixes.iter().map(|s| verdict(template, 0, 1, &[w, s].concat())).collect() };
+            let letters: &[u8] = if template <= 8 { &[0, 1] } else { &[0, 1, 2] };
+            let told = |w: &[u8]| -> Vec<Verdict> { suffixes.iter().map(|s| verdict(template, 1, 2, &[w, s].concat())).collect() };
             let mut states: Vec<Vec<u8>> = vec![vec![]];
             let mut known = HashMap::from([(format!("{:?}", told(&[])), 0)]);
             let mut k = 0;
@@ -117,9 +118,12 @@ impl Automaton {
                         states.push(w);
                         states.len() - 1
                     });
-                    made.next[template as usize][k][x as usize] = to as u8;
+                    made.next[template as usize][4 * k + x as usize] = 4 * to as u8;
+                    if template <= 8 && x == 1 {
+                        made.next[template as usize][4 * k + 3] = 4 * to as u8;
+                    }
                 }
-                made.fulfilled[template as usize][k] = verdict(template, 0, 1, &states[k]) == Verdict::Fulfilled;
+                made.fulfilled[template as usize][k] = verdict(template, 1, 2, &states[k]) == Verdict::Fulfilled;
                 k += 1;
             }
             assert!(states.len() <= STATES);
@@ -131,19 +135,14 @@ impl Automaton {
 impl Replay for Automaton {
     #[inline]
     fn fulfilled(&self, template: u8, a: u8, b: u8, trace: &[u8]) -> bool {
+        // For one-step templates a letter 3 comes, where a is b; it is a.
         let next = &self.next[template as usize];
         let mut state = 0;
         for &event in trace {
-            let letter = if event == a {
-                0
-            } else if event == b {
-                1
-            } else {
-                2
-            };
-            state = next[state as usize % STATES][letter];
+            let letter = (event == a) as usize + 2 * (event == b) as usize;
+            state = next[(state as usize + letter) % (4 * STATES)];
         }
-        self.fulfilled[template as usize][state as usize % STATES]
+        self.fulfilled[template as usize][state as usize / 4]
     }
 }
 
@@ -172,16 +171,21 @@ fn traces<'a>(record: Record, events: &'a [u8], ends: &'a [u32]) -> impl Iterato
     })
 }
 
-/// The kept traces that count for the constraint's class.
 #[inline]
+fn has(trace: &[u8], x: u8) -> bool {
+    trace.iter().any(|&event| event == x)
+}
+
+/// The kept traces that count for the constraint's class.
 fn support(record: Record, events: &[u8], ends: &[u32], template: u8, a: u8, b: u8) -> u32 {
-    let counts = |trace: &[u8]| match template {
-        1..=3 | 7..=8 => trace.contains(&a),
-        4..=6 => true,
-        9..=10 | 12 | 23..=24 => trace.contains(&a) || trace.contains(&b),
-        _ => trace.contains(&a) && trace.contains(&b),
+    let all = traces(record, events, ends);
+    let count = match template {
+        1..=3 | 7..=8 => all.filter(|w| has(w, a)).count(),
+        4..=6 => record.traces as usize,
+        9..=10 | 12 | 23..=24 => all.filter(|w| has(w, a) || has(w, b)).count(),
+        _ => all.filter(|w| has(w, a) && has(w, b)).count(),
     };
-    traces(record, events, ends).filter(|w| counts(w)).count() as u32
+    count as u32
 }
 
 fn meets(count: u32, threshold: u32, traces: u32) -> bool {

@@ -39,7 +39,8 @@ fn logs(n: u32) -> Vec<Log> {
         log("many short, pruned", n, 4095, 4, 900),
         log("many of one event", n, 4095, 1, 1),
         log("middling", n, 200, 40, 500),
-        log("one of one event", n, 1, 1, 1000),
+        log("small", n, 10, 8, 900),
+        log("one event", n, 1, 1, 1000),
     ]
 }
 
@@ -87,17 +88,23 @@ fn now() -> f64 {
     t.seconds as f64 + t.nanoseconds as f64 * 1e-9
 }
 
-/// The best time of each finder over several rounds, each taking its turn in every round.
+/// The best time of a find by each finder over several rounds, each finder taking its turn in every round. A turn is as many finds
+/// as take a few milliseconds.
 fn times(automaton: &Automaton, log: &Log) -> ([f64; 3], FindAnswer) {
     let mut best = [f64::MAX; 3];
     let mut lists = [vec![0u16; 60000], vec![0u16; 60000], vec![0u16; 60000]];
     let mut said = [None; 3];
-    let (start, mut rounds) = (now(), 0);
-    while rounds < 5 || (rounds < 200 && now() - start < 0.5) {
+    let start = now();
+    bench_find(2, automaton, log, &mut lists[2]);
+    let finds = (0.003 / (now() - start)).clamp(1.0, 3000.0) as usize;
+    let mut rounds = 0;
+    while rounds < 5 || (rounds < 100 && now() - start < 0.5) {
         for which in 0..3 {
             let before = now();
-            said[which] = bench_find(which, automaton, log, &mut lists[which]);
-            best[which] = best[which].min(now() - before);
+            for _ in 0..finds {
+                said[which] = bench_find(which, automaton, log, &mut lists[which]);
+            }
+            best[which] = best[which].min((now() - before) / finds as f64);
         }
         rounds += 1;
     }
@@ -117,7 +124,7 @@ fn print_times() {
             let (t, said) = times(&automaton, &log);
             let ratios = [t[0] / t[1], t[0] / t[2]];
             println!(
-                "{:<19} {:>3} {:>6} {:>6} {:>9} {:>8} {:>10.3} {:>10.3} {:>10.3} {:>10.2} {:>12.2}",
+                "{:<19} {:>3} {:>6} {:>6} {:>9} {:>8} {:>10.4} {:>10.4} {:>10.4} {:>10.2} {:>12.2}",
                 log.name,
                 n,
                 log.record.traces,
