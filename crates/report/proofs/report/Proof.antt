@@ -1,8 +1,8 @@
--- `report::report` meets its contract.
+-- `report::report` meets its contract: each way out is one of the first two checks, or the steps after them.
 -- Assumes nothing.
 use borrow.Author.Needs.{needs}
 use mathlib.Core.Path.{sym, _∙_}
-use Prim.Native.Nat.{_-_}
+use Prim.Native.Nat.{_-_, _≤_}
 use native.Mathlib.Omega.{arith}
 use lib.ListN.{length, drop, length-drop}
 use lib.Seq.{take-all}
@@ -26,15 +26,17 @@ read-settings-requires c κs = search needs
 enum-known-n : tie.Need-enum-known-n
 enum-known-n c = search needs
 
-sub-open-and-print : tie.Need-sub-open-and-print
-sub-open-and-print c =
+-- settings that are laid out are eight bytes
+has-settings : (c : tie.After-known-told) → 8 ≤ length (now (c .before .before .before .before .before .before .args .input))
+has-settings c =
     let set = c .before .n .given in
     set-by (now (c .before .before .before .before .before .before .args .input)) _ _ (sym (c .before .before .before .read-settings .ensures) ∙ set .1) .long
 
+sub-open-and-print : tie.Need-sub-open-and-print
+sub-open-and-print c = omega (arith, has-settings c)
+
 part-open-and-print-start : tie.Need-part-open-and-print-start
-part-open-and-print-start c =
-    let set = c .before .n .given in
-    set-by (now (c .before .before .before .before .before .before .args .input)) _ _ (sym (c .before .before .before .read-settings .ensures) ∙ set .1) .long
+part-open-and-print-start c = omega (arith, has-settings c)
 
 part-open-and-print-end : tie.Need-part-open-and-print-end
 part-open-and-print-end c = search needs
