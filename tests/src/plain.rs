@@ -1,74 +1,12 @@
 //! A finder in plain Rust, as fast as its kind allows and with no proof: what the benchmark sets beside the archive's `find`. It
 //! works as that one does: class by template number, support counted from the events, one replay of each trace for each
-//! constraint that pruning keeps, once to know what is needed and once to write, no memory but what is lent.
-//!
-//! Two replayers: `Summary` keeps the flags that decide all templates, as the proved one does; `Automaton` keeps one state of the
-//! constraint's own automaton and looks the next one up.
+//! constraint that pruning keeps, once to know what is needed and once to write, no memory but what is lent. A replay keeps one
+//! state of the constraint's own automaton and looks the next one up.
 
 use crate::calls::{FindAnswer, Record};
 use crate::oracle::ledger::{refusal, Refusal};
 use crate::oracle::templates::{verdict, Verdict};
 use std::collections::HashMap;
-
-pub trait Replay {
-    fn fulfilled(&self, template: u8, a: u8, b: u8, trace: &[u8]) -> bool;
-}
-
-pub struct Summary;
-
-impl Replay for Summary {
-    #[inline]
-    fn fulfilled(&self, template: u8, a: u8, b: u8, trace: &[u8]) -> bool {
-        let (mut one, mut two, mut three, mut seen) = (false, false, false, false);
-        let (mut started, mut first, mut last, mut owed) = (false, false, false, false);
-        let (mut doubled, mut missed, mut early, mut bare) = (false, false, false, false);
-        let (mut loose, mut later, mut next) = (false, false, false);
-        for &event in trace {
-            let (is_a, is_b) = (event == a, event == b);
-            doubled |= is_a & owed & !is_b;
-            missed |= last & !is_b;
-            early |= is_b & !one;
-            bare |= is_b & !owed;
-            loose |= is_b & !last;
-            later |= is_b & one;
-            next |= is_b & last;
-            owed = is_a | (owed & !is_b);
-            first |= is_a & !started;
-            started = true;
-            last = is_a;
-            seen |= is_b;
-            three |= is_a & two;
-            two |= is_a & one;
-            one |= is_a;
-        }
-        match template {
-            1 => one,
-            2 => two,
-            3 => three,
-            4 => !one,
-            5 => !two,
-            6 => !three,
-            7 => first,
-            8 => last,
-            9 => one | seen,
-            10 => one != seen,
-            11 => one & seen,
-            12 => one != seen,
-            13 => one & seen,
-            14 => one & !owed,
-            15 => one & !owed & !doubled,
-            16 => one & !missed & !last,
-            17 => seen & !early,
-            18 => seen & !bare,
-            19 => seen & !loose,
-            20 => one & !owed & !early,
-            21 => one & !owed & !doubled & !bare,
-            22 => one & !missed & !last & !loose,
-            23 => (one | seen) & !later,
-            _ => (one | seen) & !next,
-        }
-    }
-}
 
 const STATES: usize = 16;
 
@@ -130,9 +68,7 @@ impl Automaton {
         }
         made
     }
-}
 
-impl Replay for Automaton {
     #[inline]
     fn fulfilled(&self, template: u8, a: u8, b: u8, trace: &[u8]) -> bool {
         // For one-step templates a letter 3 comes, where a is b; it is a.
@@ -171,13 +107,24 @@ fn traces<'a>(record: Record, events: &'a [u8], ends: &'a [u32]) -> impl Iterato
     })
 }
 
+/// Byte by byte, as the proved code does.
 #[inline]
-fn has(trace: &[u8], x: u8) -> bool {
+pub fn by_bytes(trace: &[u8], x: u8) -> bool {
     trace.iter().any(|&event| event == x)
 }
 
+/// As the standard library does, several bytes at a time, where the trace is long enough for that.
+#[inline]
+pub fn by_library(trace: &[u8], x: u8) -> bool {
+    if trace.len() < 16 {
+        by_bytes(trace, x)
+    } else {
+        trace.contains(&x)
+    }
+}
+
 /// The kept traces that count for the constraint's class.
-fn support(record: Record, events: &[u8], ends: &[u32], template: u8, a: u8, b: u8) -> u32 {
+fn support(has: impl Fn(&[u8], u8) -> bool, record: Record, events: &[u8], ends: &[u32], template: u8, a: u8, b: u8) -> u32 {
     let all = traces(record, events, ends);
     let count = match template {
         1..=3 | 7..=8 => all.filter(|w| has(w, a)).count(),
@@ -193,7 +140,15 @@ fn meets(count: u32, threshold: u32, traces: u32) -> bool {
 }
 
 /// Goes over the constraints in their order and hands each one to be listed on, with its count. Gives the replayed number.
-fn walk<R: Replay>(r: &R, record: Record, events: &[u8], ends: &[u32], threshold: u32, mut listed: impl FnMut([u16; 4])) -> u32 {
+fn walk(
+    automaton: &Automaton,
+    has: impl Fn(&[u8], u8) -> bool + Copy,
+    record: Record,
+    events: &[u8],
+    ends: &[u32],
+    threshold: u32,
+    mut listed: impl FnMut([u16; 4]),
+) -> u32 {
     let n = record.activities as u8;
     let mut replayed = 0;
     for template in 1..=24u8 {
@@ -207,10 +162,10 @@ fn walk<R: Replay>(r: &R, record: Record, events: &[u8], ends: &[u32], threshold
                 if template > 12 && a == b {
                     continue;
                 }
-                if !meets(support(record, events, ends, template, a, b), threshold, record.traces) {
+                if !meets(support(has, record, events, ends, template, a, b), threshold, record.traces) {
                     continue;
                 }
-                let count = traces(record, events, ends).filter(|w| r.fulfilled(template, a, b, w)).count() as u32;
+                let count = traces(record, events, ends).filter(|w| automaton.fulfilled(template, a, b, w)).count() as u32;
                 replayed += 1;
                 if meets(count, threshold, record.traces) {
                     listed([template as u16, a as u16, b as u16, count as u16]);
@@ -221,8 +176,10 @@ fn walk<R: Replay>(r: &R, record: Record, events: &[u8], ends: &[u32], threshold
     replayed
 }
 
-pub fn find<R: Replay>(
-    r: &R,
+/// `has` is how support looks for an activity in a trace: `by_bytes` or `by_library`.
+pub fn find(
+    automaton: &Automaton,
+    has: impl Fn(&[u8], u8) -> bool + Copy,
     record: Record,
     events: &[u8],
     ends: &[u32],
@@ -239,11 +196,11 @@ pub fn find<R: Replay>(
         return Err(refusal(11, 0));
     }
     let mut needed = 0;
-    let replayed = walk(r, record, events, ends, threshold, |_| needed += 1);
+    let replayed = walk(automaton, has, record, events, ends, threshold, |_| needed += 1);
     if list.len() < 4 * needed {
         return Err(refusal(10, needed));
     }
     let mut places = list.chunks_exact_mut(4);
-    walk(r, record, events, ends, threshold, |rule| places.next().unwrap().copy_from_slice(&rule));
+    walk(automaton, has, record, events, ends, threshold, |rule| places.next().unwrap().copy_from_slice(&rule));
     Ok(FindAnswer { listed: needed as u32, replayed, traces: record.traces })
 }

@@ -2,7 +2,7 @@
 
 use budgieleaf_tests::calls::Calls;
 use budgieleaf_tests::oracle::memory::Model;
-use budgieleaf_tests::plain::{find, Automaton, Summary};
+use budgieleaf_tests::plain::{by_bytes, by_library, find, Automaton};
 use budgieleaf_tests::rng::{cases, Rng};
 use budgieleaf_tests::{gen, memories};
 
@@ -18,13 +18,13 @@ fn the_plain_finder_agrees_with_the_model() {
                 let (events, ends, mut list) = (memory.events.get(), memory.ends.get(), vec![7; room]);
                 let said = match which {
                     0 => Model.find(memory.record, events, ends, threshold, &mut list),
-                    1 => find(&Summary, memory.record, events, ends, threshold, &mut list),
-                    _ => find(&automaton, memory.record, events, ends, threshold, &mut list),
+                    1 => find(&automaton, by_bytes, memory.record, events, ends, threshold, &mut list),
+                    _ => find(&automaton, by_library, memory.record, events, ends, threshold, &mut list),
                 };
                 (said, list)
             })
             .collect();
-        assert!(lists[0] == lists[1], "summary, case {case}");
-        assert!(lists[0] == lists[2], "automaton, case {case}");
+        assert!(lists[0] == lists[1], "by bytes, case {case}");
+        assert!(lists[0] == lists[2], "by library, case {case}");
     }
 }

@@ -1,11 +1,11 @@
-//! `find` through the archive beside two plain Rust finders: the same logs, one process.
+//! `find` through the archive beside a plain Rust finder: the same logs, one process.
 //!
 //!     cargo run --release --bin bench                   times and their ratios
 //!     cargo run --release --bin bench -- instructions   instructions for each event replayed, counted by valgrind
 
 use budgieleaf_tests::calls::{Calls, FindAnswer, Record};
 use budgieleaf_tests::capi::Archive;
-use budgieleaf_tests::plain::{find, Automaton, Summary};
+use budgieleaf_tests::plain::{by_bytes, by_library, find, Automaton};
 use budgieleaf_tests::rng::Rng;
 use std::hint::black_box;
 use std::process::Command;
@@ -20,8 +20,13 @@ struct Log {
 
 /// A log of so many traces of one length. Activities come in a rough order, so that constraints of all kinds are met or nearly so.
 fn log(name: &'static str, activities: u32, traces: usize, length: usize, threshold: u32) -> Log {
+    log_of(name, activities, activities, traces, length, threshold)
+}
+
+/// The same, where only so many of the declared activities occur.
+fn log_of(name: &'static str, activities: u32, occurring: u32, traces: usize, length: usize, threshold: u32) -> Log {
     let mut rng = Rng::new(activities as u64 + traces as u64);
-    let n = activities as usize;
+    let n = occurring as usize;
     let (mut events, mut ends) = (Vec::new(), Vec::new());
     for _ in 0..traces {
         let phase = rng.below(n);
@@ -34,7 +39,8 @@ fn log(name: &'static str, activities: u32, traces: usize, length: usize, thresh
 fn logs(n: u32) -> Vec<Log> {
     vec![
         log("few long", n, 4, 4096, 1),
-        log("few long, pruned", n, 4, 4096, 1000),
+        log_of("few long, half occur", n, n / 2, 4, 4096, 500),
+        log_of("few long, two occur", n, 2, 4, 4096, 500),
         log("many short", n, 4095, 4, 1),
         log("many short, pruned", n, 4095, 4, 900),
         log("many of one event", n, 4095, 1, 1),
@@ -55,7 +61,8 @@ fn counted_logs() -> Vec<Log> {
     ]
 }
 
-const FINDERS: [&str; 3] = ["archive", "summary", "automaton"];
+/// The archive, the plain finder that counts support as the archive does, and the one that lets the library search.
+const FINDERS: [&str; 3] = ["archive", "plain", "library"];
 
 /// One find by the finder of this number; the list is not cleared before.
 #[no_mangle]
@@ -64,8 +71,8 @@ fn bench_find(which: usize, automaton: &Automaton, log: &Log, list: &mut [u16]) 
     let Log { record, events, ends, threshold, .. } = black_box(log);
     match which {
         0 => Archive.find(*record, events, ends, *threshold, list).ok(),
-        1 => find(&Summary, *record, events, ends, *threshold, list).ok(),
-        _ => find(automaton, *record, events, ends, *threshold, list).ok(),
+        1 => find(automaton, by_bytes, *record, events, ends, *threshold, list).ok(),
+        _ => find(automaton, by_library, *record, events, ends, *threshold, list).ok(),
     }
 }
 
@@ -115,8 +122,8 @@ fn times(automaton: &Automaton, log: &Log) -> ([f64; 3], FindAnswer) {
 fn print_times() {
     let automaton = Automaton::new();
     println!(
-        "{:<19} {:>3} {:>6} {:>6} {:>9} {:>8} {:>10} {:>10} {:>10} {:>10} {:>12}",
-        "log", "N", "traces", "events", "threshold", "replayed", "archive ms", "summary", "automaton", "to summary", "to automaton"
+        "{:<20} {:>3} {:>6} {:>6} {:>9} {:>8} {:>10} {:>10} {:>10} {:>10} {:>12}",
+        "log", "N", "traces", "events", "threshold", "replayed", "archive ms", "plain", "library", "to plain", "to library"
     );
     let mut worst = [0f64; 2];
     for n in [5, 16, 32] {
@@ -124,7 +131,7 @@ fn print_times() {
             let (t, said) = times(&automaton, &log);
             let ratios = [t[0] / t[1], t[0] / t[2]];
             println!(
-                "{:<19} {:>3} {:>6} {:>6} {:>9} {:>8} {:>10.4} {:>10.4} {:>10.4} {:>10.2} {:>12.2}",
+                "{:<20} {:>3} {:>6} {:>6} {:>9} {:>8} {:>10.4} {:>10.4} {:>10.4} {:>10.2} {:>12.2}",
                 log.name,
                 n,
                 log.record.traces,
@@ -140,7 +147,7 @@ fn print_times() {
             worst = [worst[0].max(ratios[0]), worst[1].max(ratios[1])];
         }
     }
-    println!("worst: {:.2} to the summary, {:.2} to the automaton", worst[0], worst[1]);
+    println!("worst: {:.2} to the plain finder, {:.2} to the one with the library's search", worst[0], worst[1]);
 }
 
 /// Runs one find under callgrind, in a process of its own, and gives the instructions of the find alone.
@@ -160,15 +167,15 @@ fn print_instructions() {
     let automaton = Automaton::new();
     println!("Instructions for each event replayed (a find replays each kept constraint twice), with all else that the find does.");
     println!(
-        "{:<19} {:>3} {:>6} {:>6} {:>9} {:>15} {:>8} {:>8} {:>9} {:>10} {:>12}",
-        "log", "N", "traces", "events", "threshold", "events replayed", "archive", "summary", "automaton", "to summary", "to automaton"
+        "{:<20} {:>3} {:>6} {:>6} {:>9} {:>15} {:>8} {:>8} {:>9} {:>10} {:>12}",
+        "log", "N", "traces", "events", "threshold", "events replayed", "archive", "plain", "library", "to plain", "to library"
     );
     for (at, log) in counted_logs().iter().enumerate() {
         let said = bench_find(2, &automaton, log, &mut vec![0; 60000]).unwrap();
         let replayed = 2 * said.replayed as u64 * log.events.len() as u64;
         let each = [0, 1, 2].map(|which| instructions(which, at) as f64 / replayed as f64);
         println!(
-            "{:<19} {:>3} {:>6} {:>6} {:>9} {:>15} {:>8.1} {:>8.1} {:>9.1} {:>10.2} {:>12.2}",
+            "{:<20} {:>3} {:>6} {:>6} {:>9} {:>15} {:>8.1} {:>8.1} {:>9.1} {:>10.2} {:>12.2}",
             log.name,
             log.record.activities,
             log.record.traces,
