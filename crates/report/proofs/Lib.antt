@@ -6,3 +6,4 @@ pub mod Reading
 pub mod Reporting
 pub mod SettingsLine
 pub mod Stores
+pub mod Whole

@@ -77,7 +77,7 @@ module _ (n : ℕ) (log events ends : List ℕ) (low : 1 ≤ n) (high : n ≤ mo
   read-outcome : outcome (checks-of-read (empty-log n events ends) log) ≡ outcome (log-checks (onto-empty n) log)
   read-outcome = rw (fresh-sound n events ends low high, onto-lent)
 
-  filled : Passed (log-checks (onto-empty n) log) → Filled n log (with-traces (empty-log n events ends) (spelled log))
+  pub filled : Passed (log-checks (onto-empty n) log) → Filled n log (with-traces (empty-log n events ends) (spelled log))
   filled passed =
       let m = empty-log n events ends in
       let is-sound = fresh-sound n events ends low high in

@@ -67,16 +67,22 @@ pub record Fresh (n : ℕ) (store : Store) : Type 0 where
   pub same : store .activities ≡ n
   pub no-trace : store .traces ≡ 0
 
+pub declared : (n : ℕ) → undeclared n .fails ≡ false → (1 ≤ n) × (n ≤ most-activities)
+declared n passes =
+    let bounds = not-false (leb 1 n and leb n most-activities) passes in (
+      leb-true 1 n (and-left (leb 1 n) (leb n most-activities) bounds),
+      leb-true n most-activities (and-right (leb 1 n) (leb n most-activities) bounds),
+    )
+
 pub opened : (n : ℕ) (store : Store) → Opens n (OpenAnswer.Opened store) → Fresh n store
 opened n store o =
     let given = passed-giving (open-checks n) (n ∷ 0 ∷ []) (store .activities ∷ store .traces ∷ []) (o .says) in
     let passes = none-fail (open-checks n) [] [] (given .0) .0 in
-    let bounds = not-false (leb 1 n and leb n most-activities) passes in
     let same : store .activities ≡ n = cc (given .1) in
     record {
       passes = passes;
-      low = omega (arith, leb-true 1 n (and-left (leb 1 n) (leb n most-activities) bounds));
-      high = omega (arith, leb-true n most-activities (and-right (leb 1 n) (leb n most-activities) bounds));
+      low = omega (arith, declared n passes .0);
+      high = omega (arith, declared n passes .1);
       same = same;
       no-trace = cc (given .1);
     }
@@ -94,10 +100,10 @@ not-opened n refusal o = go (undeclared n .fails) (o .says)
 
 -- ## All of the steps
 
-abbrev too-long : List ℕ → Check
+abbrev pub too-long : List ℕ → Check
 too-long input = ltb most-input (length input) refuses 12 with 0
 
-abbrev badly-laid-out : List ℕ → Check
+abbrev pub badly-laid-out : List ℕ → Check
 badly-laid-out input = not (settings-laid-out input) refuses 4 with 0
 
 pub all-steps :

@@ -3,3 +3,4 @@ pub mod Print
 pub mod Puts
 pub mod Report
 pub mod Steps
+pub mod Whole
