@@ -1,4 +1,4 @@
--- Document 01's sample, byte for byte, as a theorem about the definitions.
+-- Document 01's sample, byte for byte, and its order of refusals, as theorems about the definitions.
 -- Assumes nothing.
 use Prim.Native.Nat.{ℕ}
 use mathlib.Core.Path.{_≡_, refl}
@@ -42,3 +42,16 @@ unfolding
     first-line constraint-line refusal-line spell lines log-checks spelled constraints fulfilments support listed replayed
     fulfilled activated holds meanings
 sample-prints = refl
+
+-- the order of the refusals: settings cut short, no activity, a threshold of 1001, an undeclared activity on line 1, no trace
+pub refusals-print :
+    (output-of [] ≡ 32 ∷ 52 ∷ 32 ∷ 32 ∷ 32 ∷ 32 ∷ 32 ∷ 48 ∷ 10 ∷ [])
+    × (output-of (32 ∷ 32 ∷ 48 ∷ 49 ∷ 48 ∷ 48 ∷ 49 ∷ 10 ∷ []) ≡ 32 ∷ 50 ∷ 32 ∷ 32 ∷ 32 ∷ 32 ∷ 32 ∷ 48 ∷ 10 ∷ [])
+    × (output-of (32 ∷ 32 ∷ 50 ∷ 49 ∷ 48 ∷ 48 ∷ 49 ∷ 10 ∷ 32 ∷ 32 ∷ 32 ∷ 32 ∷ 32 ∷ 49 ∷ 32 ∷ 32 ∷ 50 ∷ 10 ∷ []) ≡ 32 ∷ 51 ∷ 32 ∷ 32 ∷ 32 ∷ 32 ∷ 32 ∷ 48 ∷ 10 ∷ [])
+    × (output-of (32 ∷ 32 ∷ 50 ∷ 49 ∷ 48 ∷ 48 ∷ 48 ∷ 10 ∷ 32 ∷ 32 ∷ 32 ∷ 32 ∷ 32 ∷ 49 ∷ 32 ∷ 32 ∷ 50 ∷ 10 ∷ []) ≡ 32 ∷ 54 ∷ 32 ∷ 32 ∷ 32 ∷ 32 ∷ 32 ∷ 49 ∷ 10 ∷ [])
+    × (output-of (32 ∷ 32 ∷ 50 ∷ 49 ∷ 48 ∷ 48 ∷ 48 ∷ 10 ∷ []) ≡ 49 ∷ 49 ∷ 32 ∷ 32 ∷ 32 ∷ 32 ∷ 32 ∷ 48 ∷ 10 ∷ [])
+unfolding
+    lent-list output-of checks-of-report checks-to-read settings-laid-out activities-set threshold-set found-text
+    first-line constraint-line refusal-line spell lines log-checks spelled constraints fulfilments support listed replayed
+    fulfilled activated holds meanings
+refusals-print = (refl, refl, refl, refl, refl)
