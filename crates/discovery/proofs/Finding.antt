@@ -1,13 +1,15 @@
 -- What find answers, check by check, and what passing over all constraints makes of the list.
 -- Assumes nothing.
-use Prim.Native.Nat.{ℕ, suc, _*_, _≤_, _<_}
+use Prim.Native.Nat.{ℕ, suc, _+_, _*_, _/_, _≤_, _<_}
 use mathlib.Core.Path.{_≡_, refl, sym, ap, _∙_}
-use mathlib.Core.Bool.{true}
+use mathlib.Core.Bool.{Bool, true, false}
 use mathlib.Core.List.{List, [], _∷_}
 use native.Mathlib.Omega.{arith}
-use borrow.Author.Tests.{le-leb, lt-ltb, le-ltb, ne-eqb}
+use borrow.Author.Tests.{ltb-true, ltb-false, le-leb, lt-ltb, le-ltb, ne-eqb}
+use lib.Dec.{ltb}
 use lib.ListN.{length}
 use lib.Seq.{sets}
+use Rattle.declare.specs.Logic.{if_then_else_}
 use Rattle.eventlog.specs.Checks.{Reply, gives, refused, reply}
 use Rattle.eventlog.specs.Store.{Memory, sound, kept}
 use Rattle.eventlog.proofs.Laws.{kept-length}
@@ -16,7 +18,9 @@ use Rattle.discovery.specs.declared.Tally.{Tally}
 use Rattle.discovery.specs.declared.FindAnswer.the-variants.{Listed, Refused}
 use Rattle.discovery.specs.Constraints.{constraints, listed, replayed}
 use Rattle.discovery.specs.Calls.{Finds, checks-of-find, find-values, with-list}
-use Rattle.discovery.specs.Passes.{Passes, none-yet}
+use Rattle.discovery.specs.declared.Room.the-variants.{Enough, Short}
+use Rattle.discovery.specs.Passes.{Passes, none-yet, room-for}
+use Rattle.discovery.proofs.Listing.{replayed-at-most, listed-within-replayed}
 
 -- ## Passing over all constraints
 
@@ -41,6 +45,41 @@ module _ (threshold n : ℕ) (traces : List (List ℕ)) (list list′ : List ℕ
   -- a slice of no numbers stays so
   pub passed-none : list ≡ [] → list′ ≡ []
   passed-none none = p .written ∙ rw (none, sets-none)
+
+-- ## Room
+
+all-fit :
+    (n threshold : ℕ) (traces : List (List ℕ)) (list : List ℕ) → 14 * n * n ≤ length list / 4 + 6 * n →
+    4 * length (listed n threshold traces) ≤ length list
+all-fit n threshold traces list fits =
+    omega (arith, replayed-at-most n threshold traces, listed-within-replayed n threshold traces)
+
+module _ (k : ℕ) (list : List ℕ) where
+  pub has-room : 4 * k ≤ length list → Enough ≡ room-for k list
+  has-room fits = rw (le-ltb (length list) (4 * k) fits)
+
+  pub lacks-room : length list < 4 * k → Short k ≡ room-for k list
+  lacks-room short = rw (lt-ltb (length list) (4 * k) short)
+
+  pub enough-told : room-for k list ≡ Enough → 4 * k ≤ length list
+  enough-told e = go (ltb (length list) (4 * k)) refl e
+    where
+      go : (t : Bool) → ltb (length list) (4 * k) ≡ t → (if t then Short k else Enough) ≡ Enough → 4 * k ≤ length list
+      go true h e = let z : _≡_ {A = ℕ} 0 1 = cc in absurd (omega arith)
+      go false h e = ltb-false _ _ h
+
+  pub short-told : (needed : ℕ) → room-for k list ≡ Short needed → (needed ≡ k) × (length list < 4 * k)
+  short-told needed e = go (ltb (length list) (4 * k)) refl e
+    where
+      go : (t : Bool) → ltb (length list) (4 * k) ≡ t → (if t then Short k else Enough) ≡ Short needed → (needed ≡ k) × (length list < 4 * k)
+      go true h e = (cc, ltb-true _ _ h)
+      go false h e = let z : _≡_ {A = ℕ} 0 1 = cc in absurd (omega arith)
+
+-- room for all constraints is enough
+pub room-for-all :
+    (n threshold : ℕ) (traces : List (List ℕ)) (list : List ℕ) → 14 * n * n ≤ length list / 4 + 6 * n →
+    Enough ≡ room-for (length (listed n threshold traces)) list
+room-for-all n threshold traces list fits = has-room _ list (all-fit n threshold traces list fits)
 
 -- ## Answers
 

@@ -4,10 +4,14 @@ use Prim.Native.Nat.{ℕ, _+_, _*_, _≤_}
 use mathlib.Core.Path.{_≡_}
 use mathlib.Core.Bool.{Bool}
 use mathlib.Core.List.{List, [], _∷_}
+use lib.Dec.{ltb}
+use lib.ListN.{length}
 use lib.Seq.{sets}
 use Rattle.declare.specs.Logic.{if_then_else_}
 use Rattle.discovery.specs.declared.Constraint.{Constraint}
 use Rattle.discovery.specs.declared.Replayed.{Replayed}
+use Rattle.discovery.specs.declared.Room.{Room}
+use Rattle.discovery.specs.declared.Room.the-variants.{Enough, Short}
 use Rattle.discovery.specs.declared.Tally.{Tally}
 use Rattle.discovery.specs.Lists.{those, how-many, numbers-from, for-each}
 use Rattle.discovery.specs.Constraints.{pairs, trace-count, meets, fulfilments, survives, layout}
@@ -43,3 +47,7 @@ pub record Passes
   pub listed : t′ .listed ≡ t .listed + how-many (is-listed threshold traces) cs
   pub replayed : t′ .replayed ≡ t .replayed + how-many (survives threshold traces) cs
   pub written : list′ ≡ sets list (4 * t .listed) (layout traces (those (is-listed threshold traces) cs))
+
+-- the slice has room for four numbers for each of so many constraints, or not
+abbrev pub room-for : ℕ → List ℕ → Room
+room-for needed list = if ltb (length list) (4 * needed) then Short needed else Enough

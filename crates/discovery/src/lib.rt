@@ -3,15 +3,15 @@ ghost use Prim.Native.Nat.{_*_, _≤_};
 ghost use mathlib.Core.Path.{_≡_};
 ghost use mathlib.Core.Bool.{true};
 ghost use mathlib.Core.List.{[], _∷_};
-ghost use lib.ListN.{set};
+ghost use lib.ListN.{length, set};
 ghost use lib.Seq.{sets};
 ghost use Rattle.declare.specs.Meaning.{occurs as occurs-in};
 ghost use Rattle.declare.specs.States.{Leads, Tells};
 ghost use Rattle.eventlog.specs.Store.{memory, sound, kept};
-ghost use Rattle.discovery.specs.Constraints.{class-of, counts-for, support as support-of, survives, fulfilments, constraints};
+ghost use Rattle.discovery.specs.Constraints.{class-of, counts-for, support as support-of, survives, fulfilments, constraints, listed};
 ghost use Rattle.discovery.specs.Constraints.{meets as meets-test, pairs as pairs-test};
 ghost use Rattle.discovery.specs.Calls.{Finds};
-ghost use Rattle.discovery.specs.Passes.{Replays, Passes, Within, cell, row, grid, none-yet};
+ghost use Rattle.discovery.specs.Passes.{Replays, Passes, Within, cell, row, grid, none-yet, room-for};
 use declare::Verdict;
 use eventlog::Refusal;
 use eventlog::Store;
@@ -41,6 +41,12 @@ pub struct Replayed {
 pub struct Tally {
     pub listed: u32,
     pub replayed: u32,
+}
+
+// Whether the slice has room for the list; if not, how many constraints are to be listed.
+pub enum Room {
+    Enough,
+    Short(usize),
 }
 
 pub struct Found {
@@ -345,8 +351,26 @@ fn pass_all(store: Store, events: &[u8], ends: &[u32], threshold: u32, list: &mu
     found
 }
 
-// Document 01's find, over any record, buffers, threshold and slice. The first pass tells what is needed and writes nothing; the
-// second writes the list.
+// Looks whether the list fits, and leaves the slice as it was. Where there is room for all constraints, 14·N·N − 6·N, nothing is
+// replayed for it.
+fn look(store: Store, events: &[u8], ends: &[u32], threshold: u32, list: &mut [u16]) -> Room
+    requires { ⌜ sound (memory store (now events) (now ends)) ≡ true ⌝ }
+    ensures { λ r. ⌜ r ≡ room-for (length (listed (store .activities) threshold (kept (memory store (now (events .entry)) (now (ends .entry)))))) (now (list .entry)) ⌝ }
+    ensures { λ r. ⌜ now (list .exit) ≡ now (list .entry) ⌝ }
+{
+    let n = store.activities as usize;
+    if 14 * n * n <= list.len() / 4 + 6 * n {
+        return Room::Enough;
+    }
+    let needed = pass_all(store, events, ends, threshold, &mut list[0..0]);
+    let listed = needed.listed as usize;
+    if list.len() < 4 * listed {
+        return Room::Short(listed);
+    }
+    Room::Enough
+}
+
+// Document 01's find, over any record, buffers, threshold and slice. What is needed is known before the first number is written.
 pub fn find(
     store: Store,
     events: &[u8],
@@ -381,13 +405,15 @@ pub fn find(
             detail: 0,
         });
     }
-    let needed = pass_all(store, events, ends, threshold, &mut list[0..0]);
-    let listed = needed.listed as usize;
-    if list.len() < 4 * listed {
-        return FindAnswer::Refused(Refusal {
-            number: 10,
-            detail: listed,
-        });
+    let room = look(store, events, ends, threshold, list);
+    match room {
+        Room::Short(needed) => {
+            return FindAnswer::Refused(Refusal {
+                number: 10,
+                detail: needed,
+            });
+        }
+        Room::Enough => {}
     }
     let found = pass_all(store, events, ends, threshold, list);
     FindAnswer::Listed(Found {

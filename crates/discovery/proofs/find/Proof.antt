@@ -1,13 +1,12 @@
--- `discovery::find` meets its contract: each refusal from the tests that led there, and the list from the second pass over the constraints.
--- The first pass is lent no numbers of the slice, so that it leaves the slice as it was. Assumes nothing.
+-- `discovery::find` meets its contract: each refusal from the tests that led there, and the list from the pass over the constraints.
+-- Assumes nothing.
 use mathlib.Core.Path.{_≡_, refl, sym, _∙_}
 use mathlib.Core.Bool.{true}
-use mathlib.Core.List.{[]}
 use borrow.Author.Needs.{needs}
 use borrow.Author.Tests.{not-true, not-false, le-leb, lt-leb}
 use Rattle.eventlog.specs.Store.{Memory, memory, sound}
 use Rattle.eventlog.proofs.Laws.{kept-length}
-use Rattle.discovery.proofs.Finding.{passed-listed, passed-none, finds-refused, finds-short, finds-listed}
+use Rattle.discovery.proofs.Finding.{enough-told, short-told, finds-refused, finds-short, finds-listed}
 use Rattle.discovery.proofs.find.Statement.{statement}
 use Rattle.discovery.proofs.find.Tie as tie
 
@@ -38,54 +37,43 @@ returns-4 c =
     finds-refused _ _ _ 11 0
     (simp (h, le-leb _ _ (c .before .before .if2 .left), le-leb _ _ (c .before .if3 .left), kept-length _ h, c .if4 .taken))
 
-sub-pass-all : tie.Need-sub-pass-all
-sub-pass-all c = search needs
+look-requires : tie.Need-look-requires
+look-requires c κs = is-sound-here (c .before .before .before .before)
 
-part-pass-all-start : tie.Need-part-pass-all-start
-part-pass-all-start c = search needs
-
-part-pass-all-end : tie.Need-part-pass-all-end
-part-pass-all-end c = search needs
-
-pass-all-requires : tie.Need-pass-all-requires
-pass-all-requires c κs = is-sound-here (c .before .before .before .before)
-
-cast-listed : tie.Need-cast-listed
-cast-listed c = search needs
-
-mul-if5 : tie.Need-mul-if5
-mul-if5 c = search needs
+enum-known-room : tie.Need-enum-known-room
+enum-known-room c = search needs
 
 same-length : tie.Need-same-length
 same-length c = search needs
 
--- the first pass leaves the slice as it was
-nothing-written : (c : tie.After-pass-all) → c .pass-all .last .1 .1 .1 .1 .0 ≡ []
-nothing-written c = passed-none _ _ _ _ _ _ (c .pass-all .ensures) refl
-
 returns-5 : tie.Need-returns-5
 returns-5 c =
-    let p = c .before .before .before .before in
-    let e = p .before .before in
-    rw (nothing-written p)
-    (finds-short (memory-at (e .before .before .before .before .before .before .before .before)) _ _ (is-sound-here (e .before .before .before))
-    (e .before .before .if2 .left) (e .before .if3 .left) (e .if4 .left)
-    _ (passed-listed _ _ _ _ _ _ (p .pass-all .ensures)) (rw (nothing-written p) at (c .if5 .taken)))
+    let l = c .before .before .before .before .before in
+    let e = l .before .before in
+    let s = e .before .before .before .before .before .before .before .before in
+    let told = short-told _ (s .args .list .now) _ (sym (l .look .ensures .0) ∙ c .before .room .given .1) in
+    rw (l .look .ensures .1)
+    (finds-short (memory-at s) _ _ (is-sound-here (e .before .before .before))
+    (e .before .before .if2 .left) (e .before .if3 .left) (e .if4 .left) _ (told .0) (rw (told .0) (told .1)))
 
-pass-all-requires-2 : tie.Need-pass-all-requires-2
-pass-all-requires-2 c κs = is-sound-here (c .before .before .before .before .before .before .before .before .before .before)
+enum-told : tie.Need-enum-told
+enum-told c = search needs
+
+pass-all-requires : tie.Need-pass-all-requires
+pass-all-requires c κs = is-sound-here (c .before .before .before .before .before .before .before .before .before .before)
 
 same-length-2 : tie.Need-same-length-2
 same-length-2 c = search needs
 
 returns-6 : tie.Need-returns-6
 returns-6 c =
-    let p = c .before .before .before .before .before .before .before .before in
-    let e = p .before .before in
-    finds-listed (memory-at (e .before .before .before .before .before .before .before .before)) _ _ (is-sound-here (e .before .before .before))
-    (e .before .before .if2 .left) (e .before .if3 .left) (e .if4 .left)
-    _ (passed-listed _ _ _ _ _ _ (p .pass-all .ensures)) (rw (nothing-written p) at (c .before .before .before .before .if5 .left)) _ _
-    (rw (nothing-written p) at (c .before .before .pass-all2 .ensures))
+    let l = c .before .before .before .before .before .before .before .before in
+    let e = l .before .before in
+    let s = e .before .before .before .before .before .before .before .before in
+    let fits = enough-told _ (s .args .list .now) (sym (l .look .ensures .0) ∙ c .before .before .before .before .enum-told .given .1) in
+    finds-listed (memory-at s) _ _ (is-sound-here (e .before .before .before))
+    (e .before .before .if2 .left) (e .before .if3 .left) (e .if4 .left) _ refl fits _ _
+    (rw (l .look .ensures .1) at (c .before .before .pass-all .ensures))
 
 pub find-spec : {M : Type 1} → statement M
 find-spec =
@@ -96,14 +84,11 @@ find-spec =
     returns-2
     returns-3
     returns-4
-    sub-pass-all
-    part-pass-all-start
-    part-pass-all-end
-    pass-all-requires
-    cast-listed
-    mul-if5
+    look-requires
+    enum-known-room
     same-length
     returns-5
-    pass-all-requires-2
+    enum-told
+    pass-all-requires
     same-length-2
     returns-6)
