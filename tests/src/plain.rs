@@ -1,7 +1,7 @@
 //! A finder in plain Rust, as fast as its kind allows and with no proof: what the benchmark sets beside the archive's `find`. It
 //! works as that one does: class by template number, support counted from the events, one replay of each trace for each
-//! constraint that pruning keeps, once to know what is needed and once to write, no memory but what is lent. A replay keeps one
-//! state of the constraint's own automaton and looks the next one up.
+//! constraint that pruning keeps, and one before that where the list might not fit; no memory but what is lent. A replay keeps
+//! one state of the constraint's own automaton and looks the next one up.
 
 use crate::calls::{FindAnswer, Record};
 use crate::oracle::ledger::{refusal, Refusal};
@@ -195,12 +195,19 @@ pub fn find(
     if record.traces == 0 {
         return Err(refusal(11, 0));
     }
-    let mut needed = 0;
-    let replayed = walk(automaton, has, record, events, ends, threshold, |_| needed += 1);
-    if list.len() < 4 * needed {
-        return Err(refusal(10, needed));
+    let n = record.activities as usize;
+    if list.len() < 4 * (14 * n * n - 6 * n) {
+        let mut needed = 0;
+        walk(automaton, has, record, events, ends, threshold, |_| needed += 1);
+        if list.len() < 4 * needed {
+            return Err(refusal(10, needed));
+        }
     }
+    let mut listed = 0;
     let mut places = list.chunks_exact_mut(4);
-    walk(automaton, has, record, events, ends, threshold, |rule| places.next().unwrap().copy_from_slice(&rule));
-    Ok(FindAnswer { listed: needed as u32, replayed, traces: record.traces })
+    let replayed = walk(automaton, has, record, events, ends, threshold, |rule| {
+        places.next().unwrap().copy_from_slice(&rule);
+        listed += 1;
+    });
+    Ok(FindAnswer { listed, replayed, traces: record.traces })
 }

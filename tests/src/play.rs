@@ -226,12 +226,16 @@ fn list(rng: &mut Rng, ledger: &Ledger, threshold: u32) -> Lent<u16> {
             _ => rng.below(9),
         },
     };
-    let len = match rng.below(8) {
+    // Room for all constraints that there are.
+    let all = 4 * (14 * ledger.n as usize - 6) * ledger.n as usize;
+    let len = match rng.below(10) {
         0 => needed.saturating_sub(rng.within(1, 5)),
         1 => rng.below(needed + 1),
         2 => 0,
         3 => needed + rng.within(1, 9),
         4 => needed + 1000,
+        5 => all,
+        6 => all - rng.within(1, 5),
         _ => needed,
     };
     Lent::new(rng, len, |rng| rng.next() as u16)

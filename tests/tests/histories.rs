@@ -39,7 +39,7 @@ fn middling_buffers() {
 
 #[test]
 fn large_buffers() {
-    random("large", 3, 10, &[0, 4, 6, 7, 9, 10], |rng| {
+    random("large", 17, 40, &[0, 4, 6, 7, 9, 10], |rng| {
         let longest = rng.pick(&[300, 4096]);
         Sizes { events: rng.within(9000, 30000), ends: rng.within(5, 5000), calls: 25, longest, lines: 5000 }
     });

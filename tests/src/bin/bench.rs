@@ -16,6 +16,25 @@ struct Log {
     events: Vec<u8>,
     ends: Vec<u32>,
     threshold: u32,
+    /// Whether the list has room for all constraints; otherwise just for those that are listed, and a find passes twice.
+    roomy: bool,
+}
+
+impl Log {
+    fn short_list(mut self) -> Log {
+        self.roomy = false;
+        self
+    }
+
+    fn list(&self, automaton: &Automaton) -> Vec<u16> {
+        let n = self.record.activities as usize;
+        let all = vec![0; 4 * (14 * n - 6) * n];
+        if self.roomy {
+            return all;
+        }
+        let listed = bench_find(1, automaton, self, &mut all.clone()).unwrap().listed;
+        all[..4 * listed as usize].to_vec()
+    }
 }
 
 /// A log of so many traces of one length. Activities come in a rough order, so that constraints of all kinds are met or nearly so.
@@ -33,7 +52,7 @@ fn log_of(name: &'static str, activities: u32, occurring: u32, traces: usize, le
         events.extend((0..length).map(|i| ((i + phase + rng.below(3)) % n) as u8));
         ends.push(events.len() as u32);
     }
-    Log { name, record: Record { activities, traces: traces as u32 }, events, ends, threshold }
+    Log { name, record: Record { activities, traces: traces as u32 }, events, ends, threshold, roomy: true }
 }
 
 fn logs(n: u32) -> Vec<Log> {
@@ -45,6 +64,7 @@ fn logs(n: u32) -> Vec<Log> {
         log("many short, pruned", n, 4095, 4, 900),
         log("many of one event", n, 4095, 1, 1),
         log("middling", n, 200, 40, 500),
+        log("middling, short list", n, 200, 40, 500).short_list(),
         log("small", n, 10, 8, 900),
         log("one event", n, 1, 1, 1000),
     ]
@@ -57,6 +77,7 @@ fn counted_logs() -> Vec<Log> {
         log("many short", 5, 4095, 4, 1),
         log("many short, pruned", 5, 4095, 4, 900),
         log("middling", 16, 50, 40, 500),
+        log("middling, short list", 16, 50, 40, 500).short_list(),
         log("few long", 32, 1, 400, 1),
     ]
 }
@@ -99,7 +120,7 @@ fn now() -> f64 {
 /// as take a few milliseconds.
 fn times(automaton: &Automaton, log: &Log) -> ([f64; 3], FindAnswer) {
     let mut best = [f64::MAX; 3];
-    let mut lists = [vec![0u16; 60000], vec![0u16; 60000], vec![0u16; 60000]];
+    let mut lists = [0; 3].map(|_| log.list(automaton));
     let mut said = [None; 3];
     let start = now();
     bench_find(2, automaton, log, &mut lists[2]);
@@ -151,11 +172,11 @@ fn print_times() {
 }
 
 /// Runs one find under callgrind, in a process of its own, and gives the instructions of the find alone.
-fn instructions(which: usize, at: usize) -> u64 {
+fn instructions(which: usize, at: usize, room: usize) -> u64 {
     let out = Command::new("valgrind")
         .args(["--tool=callgrind", "--callgrind-out-file=/dev/null", "--toggle-collect=bench_find"])
         .arg(std::env::current_exe().unwrap())
-        .args(["one", &which.to_string(), &at.to_string()])
+        .args(["one", &which.to_string(), &at.to_string(), &room.to_string()])
         .output()
         .expect("valgrind runs");
     let said = String::from_utf8_lossy(&out.stderr).to_string();
@@ -165,15 +186,17 @@ fn instructions(which: usize, at: usize) -> u64 {
 
 fn print_instructions() {
     let automaton = Automaton::new();
-    println!("Instructions for each event replayed (a find replays each kept constraint twice), with all else that the find does.");
+    println!("Instructions for each event replayed, with all else that the find does.");
     println!(
         "{:<20} {:>3} {:>6} {:>6} {:>9} {:>15} {:>8} {:>8} {:>9} {:>10} {:>12}",
         "log", "N", "traces", "events", "threshold", "events replayed", "archive", "plain", "library", "to plain", "to library"
     );
     for (at, log) in counted_logs().iter().enumerate() {
-        let said = bench_find(2, &automaton, log, &mut vec![0; 60000]).unwrap();
-        let replayed = 2 * said.replayed as u64 * log.events.len() as u64;
-        let each = [0, 1, 2].map(|which| instructions(which, at) as f64 / replayed as f64);
+        let mut list = log.list(&automaton);
+        let said = bench_find(2, &automaton, log, &mut list).unwrap();
+        let passes = if log.roomy { 1 } else { 2 };
+        let replayed = passes * said.replayed as u64 * log.events.len() as u64;
+        let each = [0, 1, 2].map(|which| instructions(which, at, list.len()) as f64 / replayed as f64);
         println!(
             "{:<20} {:>3} {:>6} {:>6} {:>9} {:>15} {:>8.1} {:>8.1} {:>9.1} {:>10.2} {:>12.2}",
             log.name,
@@ -199,7 +222,7 @@ fn main() {
         Some("instructions") => print_instructions(),
         Some("one") => {
             let (which, at) = (number(1), number(2));
-            let said = bench_find(which, &Automaton::new(), &counted_logs()[at], &mut vec![0; 60000]);
+            let said = bench_find(which, &Automaton::new(), &counted_logs()[at], &mut vec![0; number(3)]);
             println!("{} {said:?}", FINDERS[which]);
         }
         Some(word) => panic!("{word}: give nothing, or the word instructions"),
