@@ -50,52 +50,70 @@ ends-with a (x ∷ (y ∷ trace)) = ends-with a (y ∷ trace)
 abbrev pub Meaning : Type 0
 Meaning = ℕ → ℕ → List ℕ → Bool
 
+-- 14: each a has a later b
 abbrev pub response : Meaning
 response a b trace = each trace (λ before x after. eqb x a implies occurs b after)
 
+-- 15: each a has a later b with no a strictly between
 abbrev pub alternate-response : Meaning
 alternate-response a b trace =
     each trace (λ before x after. eqb x a implies some after (λ between y rest. eqb y b and not (occurs a between)))
 
+-- 16: each a has b as the very next step
 abbrev pub chain-response : Meaning
 chain-response a b trace = each trace (λ before x after. eqb x a implies starts-with b after)
 
+-- 17: each b has an earlier a
 abbrev pub precedence : Meaning
 precedence a b trace = each trace (λ before x after. eqb x b implies occurs a before)
 
+-- 18: each b has an earlier a with no b strictly between
 abbrev pub alternate-precedence : Meaning
 alternate-precedence a b trace =
     each trace (λ before x after. eqb x b implies some before (λ start y between. eqb y a and not (occurs b between)))
 
+-- 19: each b has a as the step just before
 abbrev pub chain-precedence : Meaning
 chain-precedence a b trace = each trace (λ before x after. eqb x b implies ends-with a before)
 
--- the templates in the order of their numbers, 1 to 24
+-- the templates in the order of their numbers, 1 to 24; w1 is the first step of a run, wm its last, m its length
 unfoldable pub meanings : List Meaning
 meanings =
+    -- 1 at least one a; 2 at least two; 3 at least three
     (λ a b trace. leb 1 (times a trace)) ∷
     (λ a b trace. leb 2 (times a trace)) ∷
     (λ a b trace. leb 3 (times a trace)) ∷
+    -- 4 none; 5 at most one; 6 at most two
     (λ a b trace. leb (times a trace) 0) ∷
     (λ a b trace. leb (times a trace) 1) ∷
     (λ a b trace. leb (times a trace) 2) ∷
+    -- 7 m ≥ 1 and w1 = a; 8 m ≥ 1 and wm = a
     (λ a b trace. starts-with a trace) ∷
     (λ a b trace. ends-with a trace) ∷
+    -- 9 a or b occurs
     (λ a b trace. occurs a trace or occurs b trace) ∷
+    -- 10 exactly one of the two occurs
     (λ a b trace. if occurs a trace then not (occurs b trace) else occurs b trace) ∷
+    -- 11 both occur or neither
     (λ a b trace. if occurs a trace then occurs b trace else not (occurs b trace)) ∷
+    -- 12 not both occur
     (λ a b trace. not (occurs a trace and occurs b trace)) ∷
+    -- 13 if a occurs, b occurs
     (λ a b trace. occurs a trace implies occurs b trace) ∷
+    -- 14 to 19
     response ∷
     alternate-response ∷
     chain-response ∷
     precedence ∷
     alternate-precedence ∷
     chain-precedence ∷
+    -- 20 is 14 and 17; 21 is 15 and 18; 22 is 16 and 19
     (λ a b trace. response a b trace and precedence a b trace) ∷
     (λ a b trace. alternate-response a b trace and alternate-precedence a b trace) ∷
     (λ a b trace. chain-response a b trace and chain-precedence a b trace) ∷
+    -- 23 no a has a later b
     (λ a b trace. each trace (λ before x after. eqb x a implies not (occurs b after))) ∷
+    -- 24 no a has b as the very next step
     (λ a b trace. each trace (λ before x after. eqb x a implies not (starts-with b after))) ∷
     []
 

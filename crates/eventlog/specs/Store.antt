@@ -61,6 +61,8 @@ abbrev pub all-below : ℕ → List ℕ → Bool
 all-below n [] = true
 all-below n (x ∷ xs) = ltb x n and all-below n xs
 
+-- N is 1 to 32; the run count is at most 4095 and the ends slice's length; no end is below the one before it (0 before the first) or
+-- more than 4096 above it; the last end is at most the step buffer's length; every kept step is below N
 unfoldable pub sound : Memory → Bool
 unfolding last-end
 sound m =
