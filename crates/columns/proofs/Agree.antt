@@ -27,7 +27,8 @@ use Rattle.columns.specs.Calls.{read-said}
 use Rattle.columns.proofs.Bools.{either, clash}
 use Rattle.columns.proofs.Passes.{Passed, passed, within-next}
 use Rattle.columns.proofs.Traces.{Each, total-last, each-last, each-front}
-use Rattle.eventlog.proofs.Laws.{all-below-append, and-left, and-right}
+use Rattle.declare.proofs.Bools.{and-left, and-right}
+use Rattle.eventlog.proofs.Laws.{all-below-append}
 
 -- ## What stands before a line, in numbers
 

@@ -19,7 +19,7 @@ use Rattle.columns.specs.declared.Scan.{Scan}
 use Rattle.columns.specs.declared.Scan.the-variants.{Blanks, Digits, Broken}
 use Rattle.columns.specs.Field.{blank, is-digit, all-digits, numeral, well-formed, value-from, value, digits-of, reversed-onto, spell, widest, field-of}
 use Rattle.columns.specs.Scan.{scan-byte, scan-from, so-far, finish}
-use Rattle.eventlog.proofs.Laws.{and-left, and-right, and-both}
+use Rattle.declare.proofs.Bools.{and-left, and-right, and-both}
 use Rattle.columns.proofs.Bools.{either, clash}
 
 -- ## Spelling, from the right

@@ -16,7 +16,7 @@ use Rattle.columns.specs.declared.Entry.{Entry}
 use Rattle.columns.specs.Field.{well-formed, value, field-of}
 use Rattle.columns.specs.Log.{Line, line-of, lines-within, lines}
 use Rattle.columns.specs.Survey.{entry-of}
-use Rattle.eventlog.proofs.Laws.{and-left, and-right, and-both}
+use Rattle.declare.proofs.Bools.{and-left, and-right, and-both}
 use Rattle.columns.proofs.Bools.{either, clash}
 
 -- ## Fields that were read

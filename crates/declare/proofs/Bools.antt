@@ -10,13 +10,13 @@ abbrev pub Expression : ℕ → Type 0
 Expression zero = Bool
 Expression (suc n) = Bool → Expression n
 
-equal : Bool → Bool → Bool
+unfoldable pub equal : Bool → Bool → Bool
 equal true true = true
 equal true false = false
 equal false true = false
 equal false false = true
 
-equal-same : (p q : Bool) → equal p q ≡ true → p ≡ q
+pub equal-same : (p q : Bool) → equal p q ≡ true → p ≡ q
 unfolding equal
 equal-same true true h = refl
 equal-same true false h = cc
@@ -41,6 +41,9 @@ and-left false q h = h
 pub and-right : (p q : Bool) → p and q ≡ true → q ≡ true
 and-right true q h = h
 and-right false q h = cc
+
+pub and-both : (p q : Bool) → p ≡ true → q ≡ true → p and q ≡ true
+and-both p q h k = rw (h, k)
 
 pub by-cases : (n : ℕ) (f g : Expression n) → agree n f g ≡ true → Equal n f g
 unfolding agree equal

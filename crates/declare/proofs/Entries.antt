@@ -13,7 +13,7 @@ use mir.Val.{boolByte}
 use Rattle.declare.specs.Logic.{_and_}
 use Rattle.declare.specs.Summary.{Summary, flags-of, heard, answers}
 use Rattle.declare.specs.States.{bits, flags, summary-of, Leads, Tells}
-use Rattle.declare.proofs.Bools.{and-left, and-right}
+use Rattle.declare.proofs.Bools.{equal, equal-same, and-left, and-right}
 
 -- the test passes at each entry of the list and its place, counted from i
 abbrev pub every : (ℕ → ℕ → Bool) → ℕ → List ℕ → Bool
@@ -30,36 +30,25 @@ entry-from test (x ∷ xs) i h (suc k) below =
 entry : (test : ℕ → ℕ → Bool) (xs : List ℕ) → every test 0 xs ≡ true → (k : ℕ) → k < length xs → test k (getD xs k 0) ≡ true
 entry test xs h k below = rw zero-add at (entry-from test xs 0 h k below)
 
-both : Bool → Bool → Bool
-both true q = q
-both false true = false
-both false false = true
-
 abbrev same : List Bool → List Bool → Bool
 same [] [] = true
 same [] (q ∷ qs) = false
 same (p ∷ ps) [] = false
-same (p ∷ ps) (q ∷ qs) = both p q and same ps qs
-
-both-equal : (p q : Bool) → both p q ≡ true → p ≡ q
-unfolding both
-both-equal true q h = sym h
-both-equal false true h = cc
-both-equal false false h = refl
+same (p ∷ ps) (q ∷ qs) = equal p q and same ps qs
 
 same-equal : (ps qs : List Bool) → same ps qs ≡ true → ps ≡ qs
 same-equal [] [] h = refl
 same-equal [] (q ∷ qs) h = cc
 same-equal (p ∷ ps) [] h = cc
 same-equal (p ∷ ps) (q ∷ qs) h =
-    ap₂ _∷_ (both-equal p q (and-left (both p q) (same ps qs) h)) (same-equal ps qs (and-right (both p q) (same ps qs) h))
+    ap₂ _∷_ (equal-same p q (and-left (equal p q) (same ps qs) h)) (same-equal ps qs (and-right (equal p q) (same ps qs) h))
 
 -- an entry of the table of next states is right
 abbrev told-at : ℕ → List Bool
 told-at at = flags-of (heard (summary-of (at / 4)) (eqb (at % 2) 1) (leb 2 (at % 4)))
 
 unfoldable pub next-right : ℕ → ℕ → Bool
-unfolding flags both
+unfolding flags equal
 next-right at next = ltb next 256 and same (flags next) (told-at at)
 
 pub leads : (xs : List ℕ) → every next-right 0 xs ≡ true → length xs ≡ 1024 → Leads xs
@@ -81,7 +70,7 @@ leads xs h long =
 
 -- an entry of the table of marks is right
 unfoldable pub marks-right : ℕ → ℕ → Bool
-unfolding flags both
+unfolding flags equal
 marks-right state entry = same (bits 26 entry) (answers (summary-of state) ++ (summary-of state .seen ∷ []))
 
 pub tells : (xs : List ℕ) → every marks-right 0 xs ≡ true → length xs ≡ 256 → Tells xs

@@ -12,7 +12,7 @@ use lib.Dec.{eqb}
 use lib.ListN.{length}
 use Rattle.declare.specs.Logic.{if_then_else_}
 use Rattle.declare.specs.Meaning.{fulfilled}
-use Rattle.eventlog.proofs.Laws.{and-left, and-right, and-both}
+use Rattle.declare.proofs.Bools.{and-left, and-right, and-both}
 use Rattle.discovery.specs.declared.Constraint.{Constraint}
 use Rattle.discovery.specs.Lists.{those, how-many, for-each}
 use Rattle.discovery.specs.Constraints.{constraints, trace-count, meets, fulfilments, support, listed, replayed, layout}

@@ -12,7 +12,7 @@ use lib.ListN.{length}
 use lib.Seq.{append-snoc}
 use Rattle.declare.specs.Logic.{_and_, _or_, _implies_, if_then_else_}
 use Rattle.declare.specs.Meaning.{Test, each-on, some-on, each, some, occurs, times, starts-with, ends-with, response, alternate-response, chain-response, precedence, alternate-precedence, chain-precedence, meanings, holds, activated, fulfilled}
-use Rattle.eventlog.proofs.Laws.{and-left, and-right, and-both}
+use Rattle.declare.proofs.Bools.{and-left, and-right, and-both}
 use Rattle.discovery.specs.Lists.{those, how-many}
 use Rattle.discovery.specs.declared.Constraint.{Constraint}
 use Rattle.discovery.specs.Constraints.{class-of, counts-for, fulfilments, support, meets, trace-count, survives}

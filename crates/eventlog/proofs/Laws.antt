@@ -11,22 +11,12 @@ use lib.Dec.{leb, ltb}
 use lib.ListN.{length, take, drop, length-append, length-set}
 use lib.Seq.{slice, length-slice, length-sets, sets-eq, length-take-le, take-take, take-at, drop-at, take-suc-set}
 use Rattle.declare.specs.Logic.{_and_}
+use Rattle.declare.proofs.Bools.{and-left, and-right, and-both}
 use Rattle.eventlog.specs.Store.{most-activities, most-traces, longest-trace, Memory, memory, cut, kept, total}
 use Rattle.eventlog.specs.Store.{last-from, last-end, rising, all-below, sound}
 use Rattle.eventlog.specs.Calls.{room, with-trace}
 
 -- ## Tests joined
-
-pub and-left : (p q : Bool) → p and q ≡ true → p ≡ true
-and-left true q h = refl
-and-left false q h = h
-
-pub and-right : (p q : Bool) → p and q ≡ true → q ≡ true
-and-right true q h = h
-and-right false q h = let z : _≡_ {A = ℕ} 0 1 = cc in absurd (omega arith)
-
-pub and-both : (p q : Bool) → p ≡ true → q ≡ true → p and q ≡ true
-and-both p q h k = rw (h, k)
 
 -- ## A sound memory, by its facts
 

@@ -12,7 +12,8 @@ use lib.ListN.{length, getD, take, drop}
 use lib.Seq.{take-suc, drop-cons, take-all}
 use Rattle.declare.specs.Logic.{_and_}
 use Rattle.eventlog.specs.Store.{longest-trace, last-from, rising, all-below}
-use Rattle.eventlog.proofs.Laws.{all-below-append, and-both}
+use Rattle.declare.proofs.Bools.{and-both}
+use Rattle.eventlog.proofs.Laws.{all-below-append}
 
 and-false : (p : Bool) → p and false ≡ false
 and-false true = refl

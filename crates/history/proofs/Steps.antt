@@ -14,7 +14,8 @@ use Rattle.eventlog.specs.Checks.{reply, when-passed}
 use Rattle.eventlog.specs.Store.{Memory, memory, kept, last-end, total, all-below, most-activities}
 use Rattle.eventlog.specs.Calls.{Room, room, unsound, Opens, open-checks, Undeclared, add-checks, add-said, with-trace}
 use Rattle.eventlog.specs.Calls as calls
-use Rattle.eventlog.proofs.Laws.{and-left, and-right, kept-length, kept-total, fresh, fresh-kept, fresh-sound, sound-added, kept-added, room-added}
+use Rattle.declare.proofs.Bools.{and-left, and-right}
+use Rattle.eventlog.proofs.Laws.{kept-length, kept-total, fresh, fresh-kept, fresh-sound, sound-added, kept-added, room-added}
 use Rattle.eventlog.proofs.Adding.{none-fail, given-new, refused-old, accepted}
 use Rattle.discovery.specs.Calls.{find-checks, find-values, with-list}
 use Rattle.history.specs.Ledger.{Call, open-for, add, find, Shown, only, Ledger, after, shows, with-all, checks-of-add}

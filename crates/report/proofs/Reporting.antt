@@ -17,7 +17,7 @@ use Rattle.eventlog.specs.declared.OpenAnswer.{OpenAnswer}
 use Rattle.eventlog.specs.Checks.{Check, _refuses_with_, gives, refused}
 use Rattle.eventlog.specs.Store.{most-activities}
 use Rattle.eventlog.specs.Calls.{open-checks, Opens}
-use Rattle.eventlog.proofs.Laws.{and-left, and-right}
+use Rattle.declare.proofs.Bools.{and-left, and-right}
 use Rattle.eventlog.proofs.Adding.{none-fail}
 use Rattle.columns.specs.Log.{log-checks}
 use Rattle.report.specs.Print.{refusal-line}

@@ -12,7 +12,7 @@ use lib.ListN.{length, getD, take, drop}
 use lib.Seq.{slice, length-slice, take-nil}
 use Rattle.declare.specs.Logic.{_and_, if_then_else_}
 use Rattle.columns.specs.declared.Field.{Field}
-use Rattle.eventlog.proofs.Laws.{and-left}
+use Rattle.declare.proofs.Bools.{and-left}
 use Rattle.columns.specs.Field.{line-feed, well-formed, value, widest, field-of}
 use Rattle.report.specs.declared.Settings.{Settings}
 use Rattle.report.specs.Report.{settings-laid-out, activities-set, threshold-set}
