@@ -49,7 +49,7 @@ told-at at = flags-of (heard (summary-of (at / 4)) (eqb (at % 2) 1) (leb 2 (at %
 
 unfoldable pub next-right : ℕ → ℕ → Bool
 unfolding flags equal
-next-right at next = ltb next 256 and same (flags next) (told-at at)
+next-right at next = ltb next 185 and same (flags next) (told-at at)
 
 pub leads : (xs : List ℕ) → every next-right 0 xs ≡ true → length xs ≡ 1024 → Leads xs
 unfolding next-right
@@ -61,26 +61,35 @@ leads xs h long =
           let q : at / 4 ≡ state = omega arith in
           let r : at % 2 ≡ letter % 2 = omega arith in
           let s : at % 4 ≡ letter = omega arith in
-          rw (q, r, s) at (same-equal (flags (getD xs at 0)) (told-at at) (and-right (ltb (getD xs at 0) 256) (same (flags (getD xs at 0)) (told-at at)) (entry next-right xs h at (omega arith))));
+          rw (q, r, s) at (same-equal (flags (getD xs at 0)) (told-at at) (and-right (ltb (getD xs at 0) 185) (same (flags (getD xs at 0)) (told-at at)) (entry next-right xs h at (omega arith))));
       small =
           λ state letter known small.
           let at = state * 4 + letter in
-          ltb-true (getD xs at 0) 256 (and-left (ltb (getD xs at 0) 256) (same (flags (getD xs at 0)) (told-at at)) (entry next-right xs h at (omega arith)));
+          ltb-true (getD xs at 0) 185 (and-left (ltb (getD xs at 0) 185) (same (flags (getD xs at 0)) (told-at at)) (entry next-right xs h at (omega arith)));
     }
+
+abbrev marked : ℕ → List Bool
+marked state = answers (summary-of state) ++ (summary-of state .seen ∷ [])
 
 -- an entry of the table of marks is right
 unfoldable pub marks-right : ℕ → ℕ → Bool
 unfolding flags equal
-marks-right state entry = same (bits 26 entry) (answers (summary-of state) ++ (summary-of state .seen ∷ []))
+marks-right state word = ltb word (2 ^ 26) and same (bits 26 word) (marked state)
 
 pub tells : (xs : List ℕ) → every marks-right 0 xs ≡ true → length xs ≡ 256 → Tells xs
 unfolding marks-right
 tells xs h long =
+    let passed : (state : ℕ) → state < 256 → ltb (getD xs state 0) (2 ^ 26) and same (bits 26 (getD xs state 0)) (marked state) ≡ true =
+    λ state known. entry marks-right xs h state (omega arith) in
     record {
       right =
           λ state known.
-          same-equal (bits 26 (getD xs state 0)) (answers (summary-of state) ++ (summary-of state .seen ∷ []))
-          (entry marks-right xs h state (omega arith));
+          same-equal (bits 26 (getD xs state 0)) (marked state)
+          (and-right (ltb (getD xs state 0) (2 ^ 26)) (same (bits 26 (getD xs state 0)) (marked state)) (passed state known));
+      small =
+          λ state known.
+          ltb-true (getD xs state 0) (2 ^ 26)
+          (and-left (ltb (getD xs state 0) (2 ^ 26)) (same (bits 26 (getD xs state 0)) (marked state)) (passed state known));
     }
 
 pub flag-small : (p : Bool) → boolByte p ≤ 1

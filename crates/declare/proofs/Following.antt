@@ -13,7 +13,7 @@ use Rattle.declare.specs.declared.Verdict.{Verdict}
 use Rattle.declare.specs.Logic.{if_then_else_}
 use Rattle.declare.specs.Meaning.{verdict, activated-when}
 use Rattle.declare.specs.Summary.{Summary, summary, fresh, stepped, after, answers, answer, summed}
-use Rattle.declare.specs.States.{bit, bits, flags, summary-of, start, led, led-all, told, Leads, Tells}
+use Rattle.declare.specs.States.{bit, bits, flags, summary-of, letter, start, led, led-all, told, Leads, Tells}
 use Rattle.declare.proofs.Ranges.{unnamed}
 use Rattle.declare.proofs.Entries.{letter-says, bits-at}
 use Rattle.declare.proofs.Summary.{decides}
@@ -38,7 +38,7 @@ module _ (next : List ℕ) (leads : Leads next) where
   follows r [] known = (known, refl)
   follows r (x ∷ trace) known =
       let l = letter-says (eqb x (r .a)) (eqb x (r .b)) in
-      let rest = follows (led next r x) trace (leads .small (r .state) _ known (l .0)) in
+      let rest = follows (led next r x) trace (omega (arith, leads .small (r .state) (letter (r .a) (r .b) x) known (l .0))) in
       (rest .0, rest .1 ∙ ap (λ (s : Summary). after s trace) (one-on r x known))
 
 module _ (marks : List ℕ) (tells : Tells marks) (state : ℕ) (known : state < 256) where

@@ -23,7 +23,7 @@ bits (suc count) n = eqb (n % 2) 1 ∷ bits count (n / 2)
 abbrev pub bit : ℕ → ℕ → Bool
 bit n place = eqb (n / 2 ^ place % 2) 1
 
--- every summary that a trace can lead to, that of the empty trace first
+-- every summary that events of the four kinds (neither a nor b, a, b, both) lead to, that of the empty trace first; no two are the same
 unfoldable pub states : List ℕ
 states =
     0 ∷ 16 ∷ 241 ∷ 7192 ∷ 7417 ∷ 209 ∷ 7385 ∷ 689 ∷ 1011 ∷ 24633 ∷ 24827 ∷ 7865 ∷ 8187 ∷ 31801 ∷ 31995 ∷ 657 ∷ 979 ∷ 24601 ∷ 24795 ∷ 7833 ∷ 8155 ∷ 31769 ∷ 31963 ∷ 12857 ∷ 13051 ∷ 947 ∷ 1015 ∷ 25403 ∷ 25599 ∷ 30777 ∷ 30971 ∷ 25275 ∷ 24635 ∷ 24831 ∷ 15929 ∷ 16123 ∷ 8123 ∷ 8191 ∷ 32571 ∷ 32767 ∷ 32443 ∷ 31803 ∷ 31999 ∷ 12825 ∷ 13019 ∷ 915 ∷ 983 ∷ 25371 ∷ 25567 ∷ 30745 ∷ 30939 ∷ 25243 ∷ 24603 ∷ 24799 ∷ 15897 ∷ 16091 ∷ 8091 ∷ 8159 ∷ 32539 ∷ 32735 ∷ 32411 ∷ 31771 ∷ 31967 ∷ 14905 ∷ 15099 ∷ 12987 ∷ 13311 ∷ 29243 ∷ 29439 ∷ 13115 ∷ 951 ∷ 25407 ∷ 31547 ∷ 31743 ∷ 25535 ∷ 31419 ∷ 30779 ∷ 30975 ∷ 25279 ∷ 24639 ∷ 16059 ∷ 16383 ∷ 32315 ∷ 32511 ∷ 16187 ∷ 8127 ∷ 32575 ∷ 32703 ∷ 32447 ∷ 31807 ∷ 14873 ∷ 15067 ∷ 12955 ∷ 13279 ∷ 29211 ∷ 29407 ∷ 13083 ∷ 919 ∷ 25375 ∷ 31515 ∷ 31711 ∷ 25503 ∷ 31387 ∷ 30747 ∷ 30943 ∷ 25247 ∷ 24607 ∷ 16027 ∷ 16351 ∷ 32283 ∷ 32479 ∷ 16155 ∷ 8095 ∷ 32543 ∷ 32671 ∷ 32415 ∷ 31775 ∷ 15035 ∷ 15359 ∷ 31291 ∷ 31487 ∷ 12859 ∷ 13055 ∷ 13247 ∷ 29503 ∷ 29695 ∷ 29375 ∷ 29247 ∷ 15163 ∷ 13119 ∷ 31551 ∷ 31679 ∷ 31423 ∷ 30783 ∷ 15931 ∷ 16127 ∷ 16319 ∷ 32319 ∷ 16191 ∷ 15003 ∷ 15327 ∷ 31259 ∷ 31455 ∷ 12827 ∷ 13023 ∷ 13215 ∷ 29471 ∷ 29663 ∷ 29343 ∷ 29215 ∷ 15131 ∷ 13087 ∷ 31519 ∷ 31647 ∷ 31391 ∷ 30751 ∷ 15899 ∷ 16095 ∷ 16287 ∷ 32287 ∷ 16159 ∷ 14907 ∷ 15103 ∷ 15295 ∷ 31295 ∷ 12991 ∷ 29631 ∷ 15167 ∷ 16063 ∷ 14875 ∷ 15071 ∷ 15263 ∷ 31263 ∷ 12959 ∷ 29599 ∷ 15135 ∷ 16031 ∷ 15039 ∷ 12863 ∷ 15935 ∷ 15007 ∷ 12831 ∷ 15903 ∷ 14911 ∷ 14879 ∷ []
@@ -60,13 +60,14 @@ told word template =
 
 -- ## By the right tables
 
--- each entry of the table of next states leads to the summary after the event
+-- each entry of the table of next states leads to the summary after the event; it is one of the 185 states, so no other table does this
 pub record Leads (next : List ℕ) : Type 0 where
   pub right :
       (state letter : ℕ) → state < 256 → letter < 4 →
       flags (getD next (state * 4 + letter) 0) ≡ flags-of (heard (summary-of state) (eqb (letter % 2) 1) (leb 2 letter))
-  pub small : (state letter : ℕ) → state < 256 → letter < 4 → getD next (state * 4 + letter) 0 < 256
+  pub small : (state letter : ℕ) → state < 256 → letter < 4 → getD next (state * 4 + letter) 0 < 185
 
--- each entry of the table of marks has the summary's answers as its bits, and then whether b has occurred
+-- each entry of the table of marks has the summary's answers as its bits, then whether b has occurred, and no bit more
 pub record Tells (marks : List ℕ) : Type 0 where
   pub right : (state : ℕ) → state < 256 → bits 26 (getD marks state 0) ≡ answers (summary-of state) ++ (summary-of state .seen ∷ [])
+  pub small : (state : ℕ) → state < 256 → getD marks state 0 < 2 ^ 26

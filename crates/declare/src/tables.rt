@@ -1,5 +1,6 @@
-// The replayer's states. They are the 185 summaries (specs/States) that any events can lead to, from number 0, no event yet; the numbers
-// above 184 never come and stand for number 0. That each entry is right is one computed test in proofs/next and one in proofs/marks.
+// The replayer's states. They are the 185 summaries (specs/States) that events of the four kinds lead to, from number 0, no event yet;
+// the numbers above 184 never come and stand for number 0. That each entry is right is one computed test for each table
+// (proofs/Entries, next-right and marks-right).
 
 // The next state, at four times the state, plus 1 where the event is a, plus 2 where it is b.
 pub const NEXT: [u8; 1024] = [

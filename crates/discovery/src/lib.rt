@@ -160,19 +160,21 @@ fn write(list: &mut [u16], listed: u32, c: Constraint, count: u16)
     put(list, at + 3, count);
 }
 
-// How many kept traces are fulfilled for the constraint, by the replayer's tables. Each trace is handed on as the part of the events
-// from the end before to its own.
+// How many kept traces are fulfilled for a constraint that pruning keeps, by the replayer's tables. Each trace is handed on as the part
+// of the events from the end before to its own.
 fn fulfilled_by(
     next: &[u8; 1024],
     marks: &[u32; 256],
     store: Store,
     events: &[u8],
     ends: &[u32],
+    threshold: u32,
     c: Constraint,
 ) -> u32
     requires { ⌜ Leads (now next) ⌝ }
     requires { ⌜ Tells (now marks) ⌝ }
     requires { ⌜ sound (memory store (now events) (now ends)) ≡ true ⌝ }
+    requires { ⌜ survives threshold (kept (memory store (now events) (now ends))) c ≡ true ⌝ }
     ensures { λ r. ⌜ r ≡ fulfilments (kept (memory store (now (events .entry)) (now (ends .entry)))) c ⌝ }
 {
     let traces = store.traces as usize;
@@ -210,7 +212,7 @@ fn replay(
 {
     let next = declare::next_states();
     let marks = declare::state_marks();
-    let fulfilled = fulfilled_by(&next, &marks, store, events, ends, c);
+    let fulfilled = fulfilled_by(&next, &marks, store, events, ends, threshold, c);
     Replayed {
         fulfilled,
         replayed: replayed + 1,

@@ -14,17 +14,17 @@ use Rattle.discovery.proofs.fulfilled_by.Statement.{statement}
 use Rattle.discovery.proofs.fulfilled_by.Tie as tie
 
 abbrev Inv-loop : tie.InvT-loop
-Inv-loop next marks events ends c traces fulfilled₀ from₀ k₀ count from k =
+Inv-loop next marks events ends threshold c traces fulfilled₀ from₀ k₀ count from k =
     Walk (fulfilled (c .template) (c .a) (c .b)) events ends traces count from k
 
 abbrev μ-loop : tie.MeasureT-loop
-μ-loop next marks events ends c traces fulfilled₀ from₀ k₀ count from k = traces - k
+μ-loop next marks events ends threshold c traces fulfilled₀ from₀ k₀ count from k = traces - k
 
 cast-traces : tie.Need-cast-traces Inv-loop μ-loop
 cast-traces c = omega (arith, c .struct-known .given)
 
 loop-holds : tie.Need-loop-holds Inv-loop μ-loop
-loop-holds c = walk-start _ _ (c .before .before .before .pre .1 .1)
+loop-holds c = walk-start _ _ (c .before .before .before .pre .1 .1 .0)
 
 mul-to : tie.Need-mul-to Inv-loop μ-loop
 mul-to c = omega arith
