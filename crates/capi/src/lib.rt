@@ -8,7 +8,7 @@ use eventlog::Store;
 ghost use mathlib.Core.Path.{_≡_};
 ghost use mathlib.Core.List.{[], _∷_};
 ghost use Rattle.eventlog.specs.Store.{sound};
-ghost use Rattle.capi.specs.Numbers.{store-of, numbers-of, memory-of, OpenCalled, AddCalled, ReadCalled, FindCalled};
+ghost use Rattle.capi.specs.Numbers.{store-of, numbers-of, lent-numbers, OpenCalled, AddCalled, ReadCalled, FindCalled};
 
 fn store_in(numbers: &[u32; 2]) -> Store
     ensures { λ r. ⌜ r ≡ store-of (now (numbers .entry)) ⌝ }
@@ -53,7 +53,7 @@ pub extern "C" fn budgieleaf_open(n: u32, store: &mut [u32; 2]) -> u32
 
 #[no_mangle]
 pub extern "C" fn budgieleaf_is_sound(store: &[u32; 2], events: &[u8], ends: &[u32]) -> bool
-    ensures { λ r. ⌜ r ≡ sound (memory-of (now (store .entry)) (now (events .entry)) (now (ends .entry))) ⌝ }
+    ensures { λ r. ⌜ r ≡ sound (lent-numbers (store .entry) (events .entry) (ends .entry)) ⌝ }
 {
     eventlog::is_sound(store_in(store), events, ends)
 }
@@ -66,7 +66,7 @@ pub extern "C" fn budgieleaf_add(
     trace: &[u8],
     answer: &mut [u64; 3],
 ) -> u32
-    ensures { λ r. ⌜ AddCalled (memory-of (now (store .entry)) (now (events .entry)) (now (ends .entry))) (now (trace .entry))
+    ensures { λ r. ⌜ AddCalled (lent-numbers (store .entry) (events .entry) (ends .entry)) (now (trace .entry))
         r (now (store .exit)) (now (events .exit)) (now (ends .exit)) (now (answer .exit)) ⌝ }
 {
     let result = eventlog::add(store_in(store), events, ends, trace);
@@ -90,7 +90,7 @@ pub extern "C" fn budgieleaf_read(
     log: &[u8],
     answer: &mut [u64; 3],
 ) -> u32
-    ensures { λ r. ⌜ ReadCalled (memory-of (now (store .entry)) (now (events .entry)) (now (ends .entry))) (now (log .entry))
+    ensures { λ r. ⌜ ReadCalled (lent-numbers (store .entry) (events .entry) (ends .entry)) (now (log .entry))
         r (now (store .exit)) (now (events .exit)) (now (ends .exit)) (now (answer .exit)) ⌝ }
 {
     let result = columns::read(store_in(store), events, ends, log);
@@ -115,7 +115,7 @@ pub extern "C" fn budgieleaf_find(
     list: &mut [u16],
     answer: &mut [u64; 3],
 ) -> u32
-    ensures { λ r. ⌜ FindCalled (memory-of (now (store .entry)) (now (events .entry)) (now (ends .entry))) threshold (now (list .entry))
+    ensures { λ r. ⌜ FindCalled (lent-numbers (store .entry) (events .entry) (ends .entry)) threshold (now (list .entry))
         r (now (list .exit)) (now (answer .exit)) ⌝ }
 {
     match discovery::find(store_in(store), events, ends, threshold, list) {

@@ -2,25 +2,24 @@
 -- with the value so far comes to `field-of`.
 -- Assumes nothing.
 use Prim.Native.Nat.{ℕ, zero, suc, _+_, _-_, _*_, _/_, _%_, _^_, _≤_, _<_}
-use mathlib.Core.Path.{_≡_, refl, sym, ap, _∙_, subst}
+use mathlib.Core.Path.{_≡_, refl, sym, ap, _∙_}
 use mathlib.Core.Logic.{_↔_}
-use mathlib.Core.Bool.{Bool, true, false, not}
+use mathlib.Core.Bool.{Bool, true, false, not, _&&_}
 use mathlib.Core.List.{List, [], _∷_, _++_, append-assoc, append-nil}
 use native.Mathlib.Omega.{arith}
 use native.Mathlib.Numerals.{add-one}
-use native.Mathlib.Nat.{add-suc, suc-add, add-zero, zero-add, sub-zero, pow-suc, pow-succ', mul-assoc, mul-le-mul-right, lt-of-lt-of-le}
+use native.Mathlib.Nat.{add-zero, zero-add, sub-zero, pow-suc, pow-succ', mul-assoc, mul-le-mul-right, lt-of-lt-of-le}
 use lib.Dec.{eqb, leb}
 use lib.ListN.{length, getD, drop, replicate, length-append, length-replicate}
 use lib.Seq.{drop-cons}
 use borrow.Author.Tests.{le-leb, lt-leb, leb-true, leb-false, ne-eqb, eqb-true, eqb-false, not-true}
-use Rattle.declare.specs.Logic.{_and_, if_then_else_}
+use Rattle.base.specs.Logic.{if_then_else_}
 use Rattle.columns.specs.declared.Field.{Field}
 use Rattle.columns.specs.declared.Scan.{Scan}
 use Rattle.columns.specs.declared.Scan.the-variants.{Blanks, Digits, Broken}
 use Rattle.columns.specs.Field.{blank, is-digit, all-digits, numeral, well-formed, value-from, value, digits-of, reversed-onto, spell, widest, field-of}
 use Rattle.columns.specs.Scan.{scan-byte, scan-from, so-far, finish}
-use Rattle.declare.proofs.Bools.{and-left, and-right, and-both}
-use Rattle.columns.proofs.Bools.{either, clash}
+use Rattle.base.proofs.Bools.{and-left, and-right, and-both, either, clash}
 
 -- ## Spelling, from the right
 
@@ -114,8 +113,8 @@ other-digits b bs p = and-right (is-digit b) (all-digits bs) p
 -- a number of more than one digit: its first is one of 1 to 9
 leading : (b c : ℕ) (cs : List ℕ) → numeral (b ∷ (c ∷ cs)) ≡ true → (is-digit b ≡ true) × (not (eqb b 48) ≡ true) × (all-digits (c ∷ cs) ≡ true)
 leading b c cs p =
-    let rest : not (eqb b 48) and all-digits (c ∷ cs) ≡ true = and-right (is-digit b) (not (eqb b 48) and all-digits (c ∷ cs)) p in (
-      and-left (is-digit b) (not (eqb b 48) and all-digits (c ∷ cs)) p,
+    let rest : not (eqb b 48) && all-digits (c ∷ cs) ≡ true = and-right (is-digit b) (not (eqb b 48) && all-digits (c ∷ cs)) p in (
+      and-left (is-digit b) (not (eqb b 48) && all-digits (c ∷ cs)) p,
       and-left (not (eqb b 48)) (all-digits (c ∷ cs)) rest,
       and-right (not (eqb b 48)) (all-digits (c ∷ cs)) rest,
     )
@@ -123,7 +122,7 @@ leading b c cs p =
 numeral-of :
     (b c : ℕ) (cs : List ℕ) → is-digit b ≡ true → not (eqb b 48) ≡ true → all-digits (c ∷ cs) ≡ true → numeral (b ∷ (c ∷ cs)) ≡ true
 numeral-of b c cs p q r =
-    and-both (is-digit b) (not (eqb b 48) and all-digits (c ∷ cs)) p (and-both (not (eqb b 48)) (all-digits (c ∷ cs)) q r)
+    and-both (is-digit b) (not (eqb b 48) && all-digits (c ∷ cs)) p (and-both (not (eqb b 48)) (all-digits (c ∷ cs)) q r)
 
 pub value-snoc :
     (v : ℕ) (xs : List ℕ) (d : ℕ) → is-digit d ≡ true →

@@ -1,9 +1,8 @@
 pub mod Agree
-pub mod Bools
 pub mod Fields
 pub mod Laws
+pub mod LineSteps
 pub mod Lines
-pub mod Passes
-pub mod Reading
-pub mod Records
+pub mod ReadContract
 pub mod Traces
+pub mod Written

@@ -1,29 +1,27 @@
 -- Laws of lines: what the code makes of a line's bytes is what `line-of` says, and the log is its first line and the rest.
 -- Assumes nothing.
-use Prim.Native.Nat.{ℕ, zero, suc, _+_, _-_, _≤_, _<_}
+use Prim.Native.Nat.{ℕ, zero, suc, _+_, _≤_, _<_}
 use mathlib.Core.Path.{_≡_, refl, sym, ap, _∙_}
-use mathlib.Core.Bool.{Bool, true, false}
+use mathlib.Core.Bool.{true, false, _&&_, and-false}
 use mathlib.Core.List.{List, [], _∷_}
 use native.Mathlib.Omega.{arith}
-use native.Mathlib.Nat.{zero-add, suc-add}
-use lib.Dec.{eqb, leb}
+use lib.Dec.{leb}
 use lib.ListN.{length, getD, take, drop, length-take, length-drop, drop-of-length-le}
-use lib.Seq.{slice, take-nil, drop-drop}
+use lib.Seq.{slice, drop-drop}
+use Rattle.base.proofs.Lists.{take-drop}
 use borrow.Author.Tests.{le-leb, lt-leb, eq-eqb, ne-eqb}
-use Rattle.declare.specs.Logic.{_and_, if_then_else_}
 use Rattle.columns.specs.declared.Field.{Field}
 use Rattle.columns.specs.declared.Entry.{Entry}
 use Rattle.columns.specs.Field.{well-formed, value, field-of}
 use Rattle.columns.specs.Log.{Line, line-of, lines-within, lines}
 use Rattle.columns.specs.Survey.{entry-of}
-use Rattle.declare.proofs.Bools.{and-left, and-right, and-both}
-use Rattle.columns.proofs.Bools.{either, clash}
+use Rattle.base.proofs.Bools.{and-right, either}
 
 -- ## Fields that were read
 
 holds-number : (bytes : List ℕ) (n : ℕ) → field-of bytes ≡ Field.Number n → (well-formed bytes ≡ true) × (value bytes ≡ n)
 holds-number bytes n e =
-    either (leb (length bytes) 9 and well-formed bytes)
+    either (leb (length bytes) 9 && well-formed bytes)
     (λ q. (and-right (leb (length bytes) 9) (well-formed bytes) q, cc (rw q at e)))
     (λ q. let z : _≡_ {A = ℕ} 0 1 = cc (rw q at e) in absurd (omega arith))
 
@@ -35,15 +33,6 @@ holds-none bytes h e =
 
 -- ## A line that was read
 
-drop-take : (n k : ℕ) (l : List ℕ) → drop n (take (n + k) l) ≡ take k (drop n l)
-drop-take zero k l = rw (zero-add k)
-drop-take (suc n) k [] = rw (suc-add n k) (sym (take-nil k))
-drop-take (suc n) k (x ∷ l) = rw (suc-add n k) (drop-take n k l)
-
-no-and : (p q : Bool) → q ≡ false → p and q ≡ false
-no-and true q e = e
-no-and false q e = refl
-
 malformed : (line : Line) → line .laid-out ≡ false → entry-of line ≡ Entry.Malformed
 malformed line e = rw e
 
@@ -51,39 +40,29 @@ pub not-ten : (bytes : List ℕ) → (length bytes ≡ 10 → ⊥) → entry-of 
 not-ten bytes h = malformed (line-of bytes) (rw (ne-eqb (length bytes) 10 h))
 
 module _ (bytes : List ℕ) (ten : length bytes ≡ 10) where
-  first : List ℕ
-  first = slice 0 6 bytes
-
-  last : List ℕ
-  last = slice 6 9 bytes
-
   pub no-line-feed : (getD bytes 9 0 ≡ 10 → ⊥) → entry-of (line-of bytes) ≡ Entry.Malformed
-  unfolding first last
   no-line-feed h =
       malformed (line-of bytes)
-      (no-and (eqb (length bytes) 10) _ (no-and (well-formed first) _ (no-and (leb 1 (value first)) _
-      (no-and (well-formed last) _ (ne-eqb (getD bytes 9 0) 10 h)))))
+      (rw (ne-eqb (getD bytes 9 0) 10 h, and-false))
 
   pub no-number : field-of (take 6 bytes) ≡ Field.Malformed → entry-of (line-of bytes) ≡ Entry.Malformed
   no-number e =
       malformed (line-of bytes)
-      (no-and (eqb (length bytes) 10) _ (rw (holds-none (slice 0 6 bytes) (omega (arith, length-take 6 bytes)) e)))
+      (rw (holds-none (slice 0 6 bytes) (omega (arith, length-take 6 bytes)) e, and-false))
 
   pub zero-number : (n : ℕ) → field-of (take 6 bytes) ≡ Field.Number n → n < 1 → entry-of (line-of bytes) ≡ Entry.Malformed
   zero-number n e h =
       let number = holds-number (take 6 bytes) n e in
       malformed (line-of bytes)
-      (no-and (eqb (length bytes) 10) _ (no-and (well-formed (take 6 bytes)) _
-      (rw (lt-leb 1 (value (take 6 bytes)) (omega (arith, number .1))))))
+      (rw (lt-leb 1 (value (take 6 bytes)) (omega (arith, number .1)), and-false))
 
   middle : drop 6 (take 9 bytes) ≡ take 3 (drop 6 bytes)
-  middle = drop-take 6 3 bytes
+  middle = sym (take-drop 6 3 bytes)
 
   pub no-activity : field-of (take 3 (drop 6 bytes)) ≡ Field.Malformed → entry-of (line-of bytes) ≡ Entry.Malformed
   no-activity e =
       malformed (line-of bytes)
-      (no-and (eqb (length bytes) 10) _ (no-and (well-formed (take 6 bytes)) _ (no-and (leb 1 (value (take 6 bytes))) _
-      (rw (middle, holds-none (take 3 (drop 6 bytes)) (omega (arith, length-take 3 (drop 6 bytes))) e)))))
+      (rw (middle, holds-none (take 3 (drop 6 bytes)) (omega (arith, length-take 3 (drop 6 bytes))) e, and-false))
 
   pub an-event :
       (n a : ℕ) → getD bytes 9 0 ≡ 10 → field-of (take 6 bytes) ≡ Field.Number n → 1 ≤ n →

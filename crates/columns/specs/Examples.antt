@@ -4,11 +4,10 @@ use Prim.Native.Nat.{ℕ}
 use mathlib.Core.Path.{_≡_, refl}
 use mathlib.Core.Bool.{false}
 use mathlib.Core.List.{List, [], _∷_}
-use Rattle.eventlog.specs.Checks.{gives, refused, reply}
-use Rattle.eventlog.specs.Store.{Memory, last-end}
+use Rattle.base.specs.Checks.{gives, refused, reply}
+use Rattle.eventlog.specs.Store.{Memory, last-end, room}
 use Rattle.columns.specs.Field.{well-formed, spell}
 use Rattle.columns.specs.Log.{lines, log-checks, spelled}
-use Rattle.columns.specs.Calls.{onto}
 
 -- "   407" and "  0"
 fields : (spell 6 407 ≡ 32 ∷ 32 ∷ 32 ∷ 52 ∷ 48 ∷ 55 ∷ []) × (spell 3 0 ≡ 32 ∷ 32 ∷ 48 ∷ [])
@@ -37,15 +36,15 @@ a-memory : Memory
 a-memory = record { store = record { activities = 2; traces = 0 }; events = 9 ∷ 9 ∷ []; ends = 7 ∷ 7 ∷ [] }
 
 -- the third line's event does not fit
-third-line : reply (log-checks (onto a-memory) a-log) [] ≡ refused 9 3
+third-line : reply (log-checks (room a-memory) a-log) [] ≡ refused 9 3
 unfolding log-checks lines a-log a-memory last-end
 third-line = refl
 
 -- a last line of one byte is malformed, and the empty log passes
-last-line : reply (log-checks (onto a-memory) (32 ∷ [])) [] ≡ refused 4 1
+last-line : reply (log-checks (room a-memory) (32 ∷ [])) [] ≡ refused 4 1
 unfolding log-checks lines a-memory last-end
 last-line = refl
 
-no-line : reply (log-checks (onto a-memory) []) [] ≡ gives []
+no-line : reply (log-checks (room a-memory) []) [] ≡ gives []
 unfolding log-checks lines a-memory last-end
 no-line = refl

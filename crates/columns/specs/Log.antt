@@ -1,16 +1,16 @@
 -- The log in columns: its lines, and the traces that they spell.
 -- Assumes nothing.
-use Prim.Native.Nat.{ℕ, zero, suc, _+_, _-_, _*_}
-use mathlib.Core.Bool.{Bool, true, false, not}
+use Prim.Native.Nat.{ℕ, zero, suc, _+_}
+use mathlib.Core.Bool.{Bool, false, not, _&&_}
 use mathlib.Core.List.{List, [], _∷_, _++_}
 use mathlib.Core.Option.{Option, none, some}
 use lib.Dec.{eqb, leb, ltb}
 use lib.ListN.{length, getD, take, drop}
 use lib.Seq.{slice}
-use Rattle.declare.specs.Logic.{_and_, _or_, if_then_else_}
-use Rattle.eventlog.specs.Checks.{Check, _refuses_with_}
-use Rattle.eventlog.specs.Store.{longest-trace, total}
-use Rattle.eventlog.specs.Calls.{Room, full}
+use Rattle.base.specs.Logic.{if_then_else_}
+use Rattle.base.specs.Checks.{Check, _refuses_with_}
+use Rattle.eventlog.specs.declared.Room.{Room}
+use Rattle.eventlog.specs.Store.{longest-trace, after-traces, full, lacks}
 use Rattle.columns.specs.Field.{line-feed, well-formed, value}
 
 -- A line of a log: whether it is laid out as one, its trace number (document 01: run number) and its activity.
@@ -24,9 +24,9 @@ line-of bytes =
     record {
       laid-out =
           eqb (length bytes) 10
-          and well-formed (slice 0 6 bytes) and leb 1 (value (slice 0 6 bytes))
-          and well-formed (slice 6 9 bytes)
-          and eqb (getD bytes 9 0) line-feed;
+          && well-formed (slice 0 6 bytes) && leb 1 (value (slice 0 6 bytes))
+          && well-formed (slice 6 9 bytes)
+          && eqb (getD bytes 9 0) line-feed;
       number = value (slice 0 6 bytes);
       activity = value (slice 6 9 bytes);
     }
@@ -81,33 +81,27 @@ abbrev pub length-of : Option (List ℕ) → ℕ
 length-of none = 0
 length-of (some trace) = length trace
 
--- A log that is read onto: its activities, its room, its count of traces and its last end.
-pub record Onto : Type 0 where
-  pub activities : ℕ
-  pub room : Room
-  pub count : ℕ
-  pub last : ℕ
-
--- the checks of a line, the `place`-th of its log
-abbrev pub line-checks : Onto → Before → ℕ → Line → List Check
-line-checks o before place line =
+-- the checks of a line, the `place`-th of a log that is read into this room
+abbrev pub line-checks : Room → Before → ℕ → Line → List Check
+line-checks r before place line =
+    let left = after-traces r (before .traces) in
     (not (line .laid-out) refuses 4 with place) ∷
     (number-falls (before .line) line refuses 5 with place) ∷
-    (leb (o .activities) (line .activity) refuses 6 with place) ∷
-    ((same-trace (before .line) line and eqb (length-of (last? (before .traces))) longest-trace) refuses 7 with place) ∷
-    ((not (same-trace (before .line) line) and full (o .room) (o .count + length (before .traces))) refuses 8 with place) ∷
-    (ltb (o .room .events) (o .last + total (before .traces) + 1) refuses 9 with place) ∷
+    (leb (r .activities) (line .activity) refuses 6 with place) ∷
+    (same-trace (before .line) line && eqb (length-of (last? (before .traces))) longest-trace refuses 7 with place) ∷
+    (not (same-trace (before .line) line) && full (left .traces) (left .ends) refuses 8 with place) ∷
+    (lacks left 1 refuses 9 with place) ∷
     []
 
-abbrev pub log-checks-from : Onto → Before → ℕ → List Line → List Check
-log-checks-from o before place [] = []
-log-checks-from o before place (line ∷ rest) =
-    line-checks o before place line ++ log-checks-from o (with-line before line) (place + 1) rest
+abbrev pub log-checks-from : Room → Before → ℕ → List Line → List Check
+log-checks-from r before place [] = []
+log-checks-from r before place (line ∷ rest) =
+    line-checks r before place line ++ log-checks-from r (with-line before line) (place + 1) rest
 
 -- the checks of a log, line by line
-unfoldable pub log-checks : Onto → List ℕ → List Check
+unfoldable pub log-checks : Room → List ℕ → List Check
 unfolding lines
-log-checks o log = log-checks-from o nothing-read 1 (lines log)
+log-checks r log = log-checks-from r nothing-read 1 (lines log)
 
 abbrev pub spelled-from : Before → List Line → List (List ℕ)
 spelled-from before [] = before .traces

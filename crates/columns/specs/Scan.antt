@@ -4,7 +4,8 @@
 use Prim.Native.Nat.{ℕ, _+_, _-_, _*_}
 use mathlib.Core.List.{List, [], _∷_}
 use lib.Dec.{eqb, leb}
-use Rattle.declare.specs.Logic.{_and_, if_then_else_}
+use mathlib.Core.Bool.{_&&_}
+use Rattle.base.specs.Logic.{if_then_else_}
 use Rattle.columns.specs.declared.Field.{Field}
 use Rattle.columns.specs.declared.Scan.{Scan}
 use Rattle.columns.specs.declared.Scan.the-variants.{Blanks, Digits, Broken}
@@ -15,7 +16,7 @@ abbrev pub scan-byte : Scan → ℕ → Scan
 scan-byte Blanks byte =
     if eqb byte blank then Blanks else if is-digit byte then Digits (byte - 48) else Broken
 scan-byte (Digits value) byte =
-    if leb 1 value and is-digit byte then Digits (value * 10 + (byte - 48)) else Broken
+    if leb 1 value && is-digit byte then Digits (value * 10 + (byte - 48)) else Broken
 scan-byte Broken byte = Broken
 
 abbrev pub scan-from : Scan → List ℕ → Scan

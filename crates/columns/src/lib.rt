@@ -1,16 +1,25 @@
+// Logs in columns: fields, lines, read.
+use eventlog::LONGEST_TRACE;
 use eventlog::Refusal;
+use eventlog::Room;
 use eventlog::Store;
 ghost use Prim.Native.Nat.{_*_, _≤_, _<_};
 ghost use mathlib.Core.Path.{_≡_};
+ghost use mathlib.Core.Bool.{true};
 ghost use mathlib.Core.List.{_∷_, []};
 ghost use lib.ListN.{length, take, drop};
-ghost use Rattle.eventlog.specs.Checks.{gives, reply};
-ghost use Rattle.eventlog.specs.Store.{most-traces, longest-trace, memory};
+ghost use Rattle.base.specs.Checks.{gives, reply};
+ghost use Rattle.eventlog.specs.Store.{most-traces, longest-trace, lent, sound, room as room-in};
 ghost use Rattle.columns.specs.Field.{is-digit, field-of};
 ghost use Rattle.columns.specs.Scan.{scan-byte, finish, so-far};
 ghost use Rattle.columns.specs.Log.{line-of, lines, spelled};
-ghost use Rattle.columns.specs.Survey.{limits-of, at-start, entry-of, Within, full-of, unplaced-of, fault-of, next-of, step-of, survey-of, accepted, moved, noted, Notable, recorded, buffers};
-ghost use Rattle.columns.specs.Calls.{onto, checks-of-read, with-traces, read-said, Reads};
+ghost use Rattle.columns.specs.Survey.{at-start, entry-of, Bounded, unplaced-of, fault-of, next-of, step-of, survey-of, accepted, moved, line-written, Writable, lines-written};
+ghost use Rattle.columns.specs.Calls.{checks-of-read, with-traces, read-said, Reads};
+
+// Document 01's numbers of the refusals that come from here.
+pub const MALFORMED: u8 = 4;
+
+pub const NUMBER_FALLS: u8 = 5;
 
 pub enum ReadAnswer {
     Added(u32),
@@ -38,17 +47,14 @@ enum Scan {
 fn is_digit(byte: u8) -> bool
     ensures { λ r. ⌜ r ≡ is-digit byte ⌝ }
 {
-    if byte < 48 {
-        return false;
-    }
-    byte <= 57
+    48 <= byte && byte <= 57
 }
 
 // A column behind blanks alone.
 fn first_column(byte: u8) -> Scan
     ensures { λ r. ⌜ r ≡ scan-byte Scan.Blanks byte ⌝ }
 {
-    if byte == 32 {
+    if byte == BLANK {
         return Scan::Blanks;
     }
     if is_digit(byte) {
@@ -110,9 +116,12 @@ pub fn read_field(bytes: &[u8]) -> Field
     finished(scan)
 }
 
-const MOST_TRACES: u32 = 4095;
+// A line's bytes, its line feed among them.
+pub const LINE: usize = 10;
 
-const LONGEST_TRACE: u32 = 4096;
+pub const LINE_FEED: u8 = 10;
+
+pub const BLANK: u8 = 32;
 
 // What a line of a log holds: a trace's number and one of its events.
 enum Entry {
@@ -123,10 +132,7 @@ enum Entry {
 fn read_line(bytes: &[u8]) -> Entry
     ensures { λ r. ⌜ r ≡ entry-of (line-of (now (bytes .entry))) ⌝ }
 {
-    if bytes.len() != 10 {
-        return Entry::Malformed;
-    }
-    if bytes[9] != 10 {
+    if bytes.len() != LINE || bytes[9] != LINE_FEED {
         return Entry::Malformed;
     }
     let Field::Number(number) = read_field(&bytes[0..6]) else {
@@ -146,19 +152,11 @@ fn line_at(log: &[u8], at: usize) -> Entry
     requires { ⌜ at < length (now log) ⌝ }
     ensures { λ r. ⌜ r ≡ entry-of (line-of (take 10 (drop at (now (log .entry))))) ⌝ }
 {
-    if log.len() - at < 10 {
+    if log.len() - at < LINE {
         return Entry::Malformed;
     }
-    let end = at + 10;
+    let end = at + LINE;
     read_line(&log[at..end])
-}
-
-// What a log is read onto: its activities, its traces so far, and the buffers' lengths.
-struct Limits {
-    activities: u32,
-    traces: u32,
-    events: usize,
-    ends: usize,
 }
 
 // How far a log is read: the number of the last line, how many events its trace can still take (none before the first line),
@@ -175,48 +173,37 @@ enum Step {
     Fault(u8),
 }
 
-fn is_full(limits: Limits, p: Progress) -> bool
-    requires { ⌜ Within limits p ⌝ }
-    ensures { λ r. ⌜ r ≡ full-of limits p ⌝ }
+fn unplaced(room: Room, p: Progress) -> u8
+    ensures { λ r. ⌜ r ≡ unplaced-of room p ⌝ }
 {
-    let count = limits.traces + p.added;
-    if count == MOST_TRACES {
-        return true;
-    }
-    count as usize == limits.ends
-}
-
-fn unplaced(limits: Limits, p: Progress) -> u8
-    ensures { λ r. ⌜ r ≡ unplaced-of limits p ⌝ }
-{
-    if limits.events <= p.last as usize {
-        9
+    if room.events <= p.last as usize {
+        eventlog::NO_SPACE
     } else {
         0
     }
 }
 
 // The number that a laid-out line is refused with, 0 where it has no fault.
-fn fault(limits: Limits, p: Progress, number: u32, activity: u32) -> u8
-    requires { ⌜ Within limits p ⌝ }
-    ensures { λ r. ⌜ r ≡ fault-of limits p number activity ⌝ }
+fn fault(room: Room, p: Progress, number: u32, activity: u32) -> u8
+    requires { ⌜ Bounded room p ⌝ }
+    ensures { λ r. ⌜ r ≡ fault-of room p number activity ⌝ }
 {
     if number < p.number {
-        return 5;
+        return NUMBER_FALLS;
     }
-    if limits.activities <= activity {
-        return 6;
+    if room.activities <= activity {
+        return eventlog::UNDECLARED;
     }
     if number == p.number {
         if p.left == 0 {
-            return 7;
+            return eventlog::TOO_LONG;
         }
-        return unplaced(limits, p);
+        return unplaced(room, p);
     }
-    if is_full(limits, p) {
-        return 8;
+    if eventlog::is_full(room.traces + p.added, room.ends) {
+        return eventlog::FULL;
     }
-    unplaced(limits, p)
+    unplaced(room, p)
 }
 
 fn next(p: Progress, number: u32) -> Progress
@@ -240,14 +227,14 @@ fn next(p: Progress, number: u32) -> Progress
 }
 
 // One line: how far the log is read after it, or the number that it is refused with.
-fn take_line(limits: Limits, p: Progress, entry: Entry) -> Step
-    requires { ⌜ Within limits p ⌝ }
-    ensures { λ r. ⌜ r ≡ step-of limits p entry ⌝ }
+fn take_line(room: Room, p: Progress, entry: Entry) -> Step
+    requires { ⌜ Bounded room p ⌝ }
+    ensures { λ r. ⌜ r ≡ step-of room p entry ⌝ }
 {
     match entry {
-        Entry::Malformed => Step::Fault(4),
+        Entry::Malformed => Step::Fault(MALFORMED),
         Entry::Event { number, activity } => {
-            let found = fault(limits, p, number, activity);
+            let found = fault(room, p, number, activity);
             if found == 0 {
                 Step::Next(next(p, number))
             } else {
@@ -257,16 +244,27 @@ fn take_line(limits: Limits, p: Progress, entry: Entry) -> Step
     }
 }
 
-// The answer to a log, before anything is written: the traces to be added, or the first line's refusal.
-fn survey(limits: Limits, start: Progress, log: &[u8]) -> ReadAnswer
-    requires { ⌜ Within limits start ⌝ }
-    ensures { λ r. ⌜ r ≡ survey-of limits start 1 (lines (now (log .entry))) ⌝ }
+fn start(room: Room) -> Progress
+    ensures { λ r. ⌜ r ≡ at-start room ⌝ }
 {
-    let mut p = start;
+    Progress {
+        number: 0,
+        left: 0,
+        added: 0,
+        last: room.last,
+    }
+}
+
+// The answer to a log, before anything is written: the traces to be added, or the first line's refusal.
+fn survey(room: Room, log: &[u8]) -> ReadAnswer
+    requires { ⌜ Bounded room (at-start room) ⌝ }
+    ensures { λ r. ⌜ r ≡ survey-of room (at-start room) 1 (lines (now (log .entry))) ⌝ }
+{
+    let mut p = start(room);
     let mut at: usize = 0;
     let mut place: usize = 1;
     while at < log.len() {
-        match take_line(limits, p, line_at(log, at)) {
+        match take_line(room, p, line_at(log, at)) {
             Step::Next(q) => {
                 p = q;
             }
@@ -277,24 +275,30 @@ fn survey(limits: Limits, start: Progress, log: &[u8]) -> ReadAnswer
                 });
             }
         }
-        at += 10;
+        at += LINE;
         place += 1;
     }
     ReadAnswer::Added(p.added)
 }
 
 // One line's event and its trace's end, written.
-fn note(traces: u32, p: Progress, entry: Entry, events: &mut [u8], ends: &mut [u32]) -> Progress
-    requires { ⌜ Notable traces p entry (buffers (now events) (now ends)) ⌝ }
+fn write_line(
+    store: Store,
+    p: Progress,
+    entry: Entry,
+    events: &mut [u8],
+    ends: &mut [u32],
+) -> Progress
+    requires { ⌜ Writable (lent store events ends) p entry ⌝ }
     ensures { λ r. ⌜ r ≡ moved p entry ⌝ }
-    ensures { λ r. ⌜ buffers (now (events .exit)) (now (ends .exit)) ≡ noted traces p entry (buffers (now (events .entry)) (now (ends .entry))) ⌝ }
+    ensures { λ r. ⌜ lent store (events .exit) (ends .exit) ≡ line-written p entry (lent store (events .entry) (ends .entry)) ⌝ }
 {
     match entry {
         Entry::Malformed => p,
         Entry::Event { number, activity } => {
             let after = next(p, number);
             let event = p.last as usize;
-            let end = (traces + after.added - 1) as usize;
+            let end = (store.traces + after.added - 1) as usize;
             events[event] = activity as u8;
             ends[end] = after.last;
             after
@@ -303,69 +307,41 @@ fn note(traces: u32, p: Progress, entry: Entry, events: &mut [u8], ends: &mut [u
 }
 
 // The events and ends of a log that the first pass has accepted, written.
-fn record(limits: Limits, start: Progress, events: &mut [u8], ends: &mut [u32], log: &[u8])
-    requires { ⌜ Within limits start ⌝ }
-    requires { ⌜ (limits .activities ≤ 32) × (length (now events) ≡ limits .events) × (length (now ends) ≡ limits .ends) ⌝ }
-    requires { ⌜ accepted (survey-of limits start 1 (lines (now log))) ⌝ }
-    ensures { λ r. ⌜ buffers (now (events .exit)) (now (ends .exit)) ≡ recorded (limits .traces) start (buffers (now (events .entry)) (now (ends .entry))) (lines (now (log .entry))) ⌝ }
+fn write_lines(store: Store, events: &mut [u8], ends: &mut [u32], log: &[u8])
+    requires { ⌜ sound (lent store events ends) ≡ true ⌝ }
+    requires { ⌜ accepted (survey-of (room-in (lent store events ends)) (at-start (room-in (lent store events ends))) 1 (lines (now log))) ⌝ }
+    ensures { λ r.
+        ⌜ lent store (events .exit) (ends .exit) ≡
+        lines-written (at-start (room-in (lent store (events .entry) (ends .entry)))) (lent store (events .entry) (ends .entry)) (lines (now (log .entry))) ⌝ }
 {
-    let mut p = start;
+    let mut p = start(eventlog::room_of(store, events, ends));
     let mut at: usize = 0;
     while at < log.len() {
-        p = note(limits.traces, p, line_at(log, at), events, ends);
-        at += 10;
-    }
-}
-
-fn limits_in(store: Store, events: &[u8], ends: &[u32]) -> Limits
-    ensures { λ r. ⌜ r ≡ limits-of (onto (memory store (now (events .entry)) (now (ends .entry)))) ⌝ }
-{
-    Limits {
-        activities: store.activities,
-        traces: store.traces,
-        events: events.len(),
-        ends: ends.len(),
-    }
-}
-
-fn start_in(store: Store, events: &[u8], ends: &[u32]) -> Progress
-    ensures { λ r. ⌜ r ≡ at-start (onto (memory store (now (events .entry)) (now (ends .entry)))) ⌝ }
-{
-    Progress {
-        number: 0,
-        left: 0,
-        added: 0,
-        last: eventlog::last_end(store, ends),
+        p = write_line(store, p, line_at(log, at), events, ends);
+        at += LINE;
     }
 }
 
 // The answer of read, before anything is written.
 fn answer(store: Store, events: &[u8], ends: &[u32], log: &[u8]) -> ReadAnswer
     ensures { λ r.
-        ⌜ read-said r ≡ reply (checks-of-read (memory store (now (events .entry)) (now (ends .entry))) (now (log .entry))) (length (spelled (now (log .entry))) ∷ []) ⌝ }
+        ⌜ read-said r ≡ reply (checks-of-read (lent store (events .entry) (ends .entry)) (now (log .entry))) (length (spelled (now (log .entry))) ∷ []) ⌝ }
 {
     if !eventlog::is_sound(store, events, ends) {
         return ReadAnswer::Refused(Refusal {
-            number: 1,
+            number: eventlog::NOT_SOUND,
             detail: 0,
         });
     }
-    survey(
-        limits_in(store, events, ends),
-        start_in(store, events, ends),
-        log,
-    )
+    survey(eventlog::room_of(store, events, ends), log)
 }
 
 // The log's traces, written behind those kept, where the answer was that so many are added.
 fn append(store: Store, events: &mut [u8], ends: &mut [u32], log: &[u8], added: u32) -> Store
-    requires { ⌜ gives (added ∷ []) ≡ reply (checks-of-read (memory store (now events) (now ends)) (now log)) (length (spelled (now log)) ∷ []) ⌝ }
-    ensures { λ r.
-        ⌜ memory r (now (events .exit)) (now (ends .exit)) ≡ with-traces (memory store (now (events .entry)) (now (ends .entry))) (spelled (now (log .entry))) ⌝ }
+    requires { ⌜ gives (added ∷ []) ≡ reply (checks-of-read (lent store events ends) (now log)) (length (spelled (now log)) ∷ []) ⌝ }
+    ensures { λ r. ⌜ lent r (events .exit) (ends .exit) ≡ with-traces (lent store (events .entry) (ends .entry)) (spelled (now (log .entry))) ⌝ }
 {
-    let limits = limits_in(store, events, ends);
-    let start = start_in(store, events, ends);
-    record(limits, start, events, ends, log);
+    write_lines(store, events, ends, log);
     Store {
         activities: store.activities,
         traces: store.traces + added,
@@ -375,7 +351,7 @@ fn append(store: Store, events: &mut [u8], ends: &mut [u32], log: &[u8], added: 
 // The traces that a log in columns spells, added behind those kept; or the refusal of the first line with a fault, and nothing written.
 pub fn read(store: Store, events: &mut [u8], ends: &mut [u32], log: &[u8]) -> ReadResult
     ensures { λ r.
-        ⌜ Reads (memory store (now (events .entry)) (now (ends .entry))) (now (log .entry)) r (now (events .exit)) (now (ends .exit)) ⌝ }
+        ⌜ Reads (lent store (events .entry) (ends .entry)) (now (log .entry)) (r .answer) (lent (r .store) (events .exit) (ends .exit)) ⌝ }
 {
     let answer = answer(store, events, ends, log);
     match answer {

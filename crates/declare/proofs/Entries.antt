@@ -3,22 +3,23 @@
 use Prim.Native.Nat.{ℕ, zero, suc, _+_, _*_, _/_, _%_, _^_, _≤_, _<_}
 use native.Mathlib.Omega.{arith}
 use native.Mathlib.Nat.{add-zero, zero-add, add-suc, suc-add, le-of-suc-le-suc, not-suc-le-zero, div-one, div-div-eq-div-mul, pow-succ'}
-use mathlib.Core.Path.{_≡_, refl, sym, ap, ap₂, _∙_}
-use mathlib.Core.Bool.{Bool, true, false}
+use mathlib.Core.Path.{_≡_, refl, sym, ap, _∙_}
+use mathlib.Core.Bool.{Bool, true, false, _&&_, Bool·beq}
 use mathlib.Core.List.{List, [], _∷_, _++_}
 use lib.Dec.{eqb, leb, ltb, lit<, lit≤}
 use lib.ListN.{length, getD}
 use borrow.Author.Tests.{ltb-true}
 use mir.Val.{boolByte}
-use Rattle.declare.specs.Logic.{_and_}
-use Rattle.declare.specs.Summary.{Summary, flags-of, heard, answers}
-use Rattle.declare.specs.States.{bits, flags, summary-of, Leads, Tells}
-use Rattle.declare.proofs.Bools.{equal, equal-same, and-left, and-right}
+use Rattle.declare.specs.Summary.{flags-of, with-event, answers}
+use Rattle.declare.specs.States.{bits, flags, summary-of, NextTable, MarksTable}
+use Rattle.base.specs.Lists.{equal-lists}
+use Rattle.base.proofs.Lists.{equal-lists-same}
+use Rattle.base.proofs.Bools.{equal-same, and-left, and-right}
 
 -- the test passes at each entry of the list and its place, counted from i
 abbrev pub every : (ℕ → ℕ → Bool) → ℕ → List ℕ → Bool
 every test i [] = true
-every test i (x ∷ xs) = test i x and every test (suc i) xs
+every test i (x ∷ xs) = test i x && every test (suc i) xs
 
 entry-from : (test : ℕ → ℕ → Bool) (xs : List ℕ) (i : ℕ) → every test i xs ≡ true → (k : ℕ) → k < length xs
     → test (i + k) (getD xs k 0) ≡ true
@@ -31,29 +32,22 @@ entry : (test : ℕ → ℕ → Bool) (xs : List ℕ) → every test 0 xs ≡ tr
 entry test xs h k below = rw zero-add at (entry-from test xs 0 h k below)
 
 abbrev same : List Bool → List Bool → Bool
-same [] [] = true
-same [] (q ∷ qs) = false
-same (p ∷ ps) [] = false
-same (p ∷ ps) (q ∷ qs) = equal p q and same ps qs
+same = equal-lists Bool·beq
 
 same-equal : (ps qs : List Bool) → same ps qs ≡ true → ps ≡ qs
-same-equal [] [] h = refl
-same-equal [] (q ∷ qs) h = cc
-same-equal (p ∷ ps) [] h = cc
-same-equal (p ∷ ps) (q ∷ qs) h =
-    ap₂ _∷_ (equal-same p q (and-left (equal p q) (same ps qs) h)) (same-equal ps qs (and-right (equal p q) (same ps qs) h))
+same-equal = equal-lists-same Bool·beq equal-same
 
 -- an entry of the table of next states is right
-abbrev told-at : ℕ → List Bool
-told-at at = flags-of (heard (summary-of (at / 4)) (eqb (at % 2) 1) (leb 2 (at % 4)))
+abbrev flags-at : ℕ → List Bool
+flags-at at = flags-of (with-event (summary-of (at / 4)) (eqb (at % 2) 1) (leb 2 (at % 4)))
 
 unfoldable pub next-right : ℕ → ℕ → Bool
-unfolding flags equal
-next-right at next = ltb next 185 and same (flags next) (told-at at)
+unfolding flags
+next-right at next = ltb next 185 && same (flags next) (flags-at at)
 
-pub leads : (xs : List ℕ) → every next-right 0 xs ≡ true → length xs ≡ 1024 → Leads xs
+pub next-table : (xs : List ℕ) → every next-right 0 xs ≡ true → length xs ≡ 1024 → NextTable xs
 unfolding next-right
-leads xs h long =
+next-table xs h long =
     record {
       right =
           λ state letter known small.
@@ -61,11 +55,11 @@ leads xs h long =
           let q : at / 4 ≡ state = omega arith in
           let r : at % 2 ≡ letter % 2 = omega arith in
           let s : at % 4 ≡ letter = omega arith in
-          rw (q, r, s) at (same-equal (flags (getD xs at 0)) (told-at at) (and-right (ltb (getD xs at 0) 185) (same (flags (getD xs at 0)) (told-at at)) (entry next-right xs h at (omega arith))));
+          rw (q, r, s) at (same-equal (flags (getD xs at 0)) (flags-at at) (and-right (ltb (getD xs at 0) 185) (same (flags (getD xs at 0)) (flags-at at)) (entry next-right xs h at (omega arith))));
       small =
           λ state letter known small.
           let at = state * 4 + letter in
-          ltb-true (getD xs at 0) 185 (and-left (ltb (getD xs at 0) 185) (same (flags (getD xs at 0)) (told-at at)) (entry next-right xs h at (omega arith)));
+          ltb-true (getD xs at 0) 185 (and-left (ltb (getD xs at 0) 185) (same (flags (getD xs at 0)) (flags-at at)) (entry next-right xs h at (omega arith)));
     }
 
 abbrev marked : ℕ → List Bool
@@ -73,13 +67,13 @@ marked state = answers (summary-of state) ++ (summary-of state .seen ∷ [])
 
 -- an entry of the table of marks is right
 unfoldable pub marks-right : ℕ → ℕ → Bool
-unfolding flags equal
-marks-right state word = ltb word (2 ^ 26) and same (bits 26 word) (marked state)
+unfolding flags
+marks-right state word = ltb word (2 ^ 26) && same (bits 26 word) (marked state)
 
-pub tells : (xs : List ℕ) → every marks-right 0 xs ≡ true → length xs ≡ 256 → Tells xs
+pub marks-table : (xs : List ℕ) → every marks-right 0 xs ≡ true → length xs ≡ 256 → MarksTable xs
 unfolding marks-right
-tells xs h long =
-    let passed : (state : ℕ) → state < 256 → ltb (getD xs state 0) (2 ^ 26) and same (bits 26 (getD xs state 0)) (marked state) ≡ true =
+marks-table xs h long =
+    let passed : (state : ℕ) → state < 256 → ltb (getD xs state 0) (2 ^ 26) && same (bits 26 (getD xs state 0)) (marked state) ≡ true =
     λ state known. entry marks-right xs h state (omega arith) in
     record {
       right =

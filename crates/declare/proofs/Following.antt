@@ -9,55 +9,53 @@ use borrow.Author.Tests.{leb-true, leb-false}
 use lib.Dec.{eqb, leb, lit<}
 use lib.ListN.{getD, List·getD-append}
 use Rattle.declare.specs.declared.Replayer.{Replayer}
-use Rattle.declare.specs.declared.Verdict.{Verdict}
-use Rattle.declare.specs.Logic.{if_then_else_}
-use Rattle.declare.specs.Meaning.{verdict, activated-when}
-use Rattle.declare.specs.Summary.{Summary, summary, fresh, stepped, after, answers, answer, summed}
-use Rattle.declare.specs.States.{bit, bits, flags, summary-of, letter, start, led, led-all, told, Leads, Tells}
+use Rattle.declare.specs.Meaning.{verdict}
+use Rattle.declare.specs.Summary.{Summary, summary, no-event-yet, stepped, after, answers, answer, summed}
+use Rattle.declare.specs.States.{bit, flags, summary-of, letter, start, advance, advance-all, marks-verdict, NextTable, MarksTable}
 use Rattle.declare.proofs.Ranges.{unnamed}
 use Rattle.declare.proofs.Entries.{letter-says, bits-at}
 use Rattle.declare.proofs.Summary.{decides}
 
 -- one event more
-pub led-snoc : (next : List ℕ) (r : Replayer) (trace : List ℕ) (x : ℕ) → led-all next r (trace ++ (x ∷ [])) ≡ led next (led-all next r trace) x
-led-snoc next r [] x = refl
-led-snoc next r (y ∷ trace) x = led-snoc next (led next r y) trace x
+pub advance-snoc : (next : List ℕ) (r : Replayer) (trace : List ℕ) (x : ℕ) → advance-all next r (trace ++ (x ∷ [])) ≡ advance next (advance-all next r trace) x
+advance-snoc next r [] x = refl
+advance-snoc next r (y ∷ trace) x = advance-snoc next (advance next r y) trace x
 
 -- the summary that a replayer's state stands for
 abbrev decoded : Replayer → Summary
 decoded r = summary (r .a) (r .b) (flags (r .state))
 
-module _ (next : List ℕ) (leads : Leads next) where
-  one-on : (r : Replayer) (x : ℕ) → r .state < 256 → decoded (led next r x) ≡ stepped (decoded r) x
+module _ (next : List ℕ) (next-table : NextTable next) where
+  one-on : (r : Replayer) (x : ℕ) → r .state < 256 → decoded (advance next r x) ≡ stepped (decoded r) x
   one-on r x known =
       let l = letter-says (eqb x (r .a)) (eqb x (r .b)) in
-      ap (summary (r .a) (r .b)) (rw (l .1, l .2) at (leads .right (r .state) _ known (l .0)))
+      ap (summary (r .a) (r .b)) (rw (l .1, l .2) at (next-table .right (r .state) _ known (l .0)))
 
   follows : (r : Replayer) (trace : List ℕ) → r .state < 256
-      → (led-all next r trace .state < 256) × (summary (r .a) (r .b) (flags (led-all next r trace .state)) ≡ after (decoded r) trace)
+      → (advance-all next r trace .state < 256) × (summary (r .a) (r .b) (flags (advance-all next r trace .state)) ≡ after (decoded r) trace)
   follows r [] known = (known, refl)
   follows r (x ∷ trace) known =
       let l = letter-says (eqb x (r .a)) (eqb x (r .b)) in
-      let rest = follows (led next r x) trace (omega (arith, leads .small (r .state) (letter (r .a) (r .b) x) known (l .0))) in
+      let rest = follows (advance next r x) trace (omega (arith, next-table .small (r .state) (letter (r .a) (r .b) x) known (l .0))) in
       (rest .0, rest .1 ∙ ap (λ (s : Summary). after s trace) (one-on r x known))
 
-module _ (marks : List ℕ) (tells : Tells marks) (state : ℕ) (known : state < 256) where
+module _ (marks : List ℕ) (marks-table : MarksTable marks) (state : ℕ) (known : state < 256) where
   word : ℕ
   word = getD marks state 0
 
   mark-at : (place : ℕ) → place < 26
       → bit word place ≡ getD (answers (summary-of state) ++ (summary-of state .seen ∷ [])) place false
   unfolding word
-  mark-at place h = sym (bits-at 26 word place h) ∙ ap (λ (l : List Bool). getD l place false) (tells .right state known)
+  mark-at place h = sym (bits-at 26 word place h) ∙ ap (λ (l : List Bool). getD l place false) (marks-table .right state known)
 
-  told-right : (a b template : ℕ) → told word template ≡ summed (summary a b (flags state)) template
-  unfolding told summed answer
-  told-right a b template = go (leb template 24) refl
+  marks-right-verdict : (a b template : ℕ) → marks-verdict word template ≡ summed (summary a b (flags state)) template
+  unfolding marks-verdict summed answer
+  marks-right-verdict a b template = go (leb template 24) refl
     where
       s : Summary
       s = summary-of state
 
-      go : (r : Bool) → leb template 24 ≡ r → told word template ≡ summed (summary a b (flags state)) template
+      go : (r : Bool) → leb template 24 ≡ r → marks-verdict word template ≡ summed (summary a b (flags state)) template
       go true e =
           simp (
             mark-at 1 (lit< tt),
@@ -71,16 +69,16 @@ module _ (marks : List ℕ) (tells : Tells marks) (state : ℕ) (known : state <
             unnamed template (s .one) (s .seen) (leb-false template 24 e),
           )
 
-at-first : (a b : ℕ) → decoded (start a b) ≡ fresh a b
+at-first : (a b : ℕ) → decoded (start a b) ≡ no-event-yet a b
 unfolding flags
 at-first a b = refl
 
 -- by the right tables, the verdict is the definition's
-pub followed : (next marks : List ℕ) → Leads next → Tells marks → (template a b : ℕ) (trace : List ℕ)
-    → told (getD marks (led-all next (start a b) trace .state) 0) template ≡ verdict template a b trace
+pub followed : (next marks : List ℕ) → NextTable next → MarksTable marks → (template a b : ℕ) (trace : List ℕ)
+    → marks-verdict (getD marks (advance-all next (start a b) trace .state) 0) template ≡ verdict template a b trace
 unfolding word
-followed next marks leads tells template a b trace =
-    let f = follows next leads (start a b) trace (lit< tt) in
-    told-right marks tells (led-all next (start a b) trace .state) (f .0) a b template
+followed next marks next-table marks-table template a b trace =
+    let f = follows next next-table (start a b) trace (lit< tt) in
+    marks-right-verdict marks marks-table (advance-all next (start a b) trace .state) (f .0) a b template
     ∙ ap (λ (s : Summary). summed s template) (f .1 ∙ ap (λ (s : Summary). after s trace) (at-first a b))
     ∙ decides template a b trace

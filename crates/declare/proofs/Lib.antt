@@ -1,4 +1,3 @@
-pub mod Bools
 pub mod Entries
 pub mod Following
 pub mod Places

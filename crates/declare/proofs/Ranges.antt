@@ -3,12 +3,11 @@
 use Prim.Native.Nat.{ℕ, _≤_, _<_}
 use native.Mathlib.Omega.{arith}
 use mathlib.Core.Path.{_≡_, refl, sym, _∙_}
-use mathlib.Core.Bool.{Bool, true, false}
+use mathlib.Core.Bool.{Bool, true, false, _&&_}
 use borrow.Author.Tests.{le-leb, lt-leb, leb-true, leb-false}
 use lib.Dec.{leb}
-use Rattle.declare.specs.Logic.{_and_, _or_, if_then_else_}
 use Rattle.declare.specs.Meaning.{between, activated-when}
-use Rattle.declare.proofs.Bools.{agree, by-cases}
+use Rattle.base.proofs.Bools.{agree, by-cases}
 
 pub inside : (low n high : ℕ) → low ≤ n → n ≤ high → between low n high ≡ true
 inside low n high h k = simp (le-leb low n h, le-leb n high k)
@@ -18,7 +17,7 @@ below low n high h = simp (lt-leb low n h)
 
 pub above : (low n high : ℕ) → high < n → between low n high ≡ false
 unfolding agree
-above low n high h = rw (lt-leb n high h) (by-cases 1 (λ p. p and false) (λ p. false) refl (leb low n))
+above low n high h = rw (lt-leb n high h) (by-cases 1 (λ p. p && false) (λ p. false) refl (leb low n))
 
 -- a number above 24 is never activated
 pub unnamed : (template : ℕ) (p q : Bool) → 24 < template → activated-when template p q ≡ false

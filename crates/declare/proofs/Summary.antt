@@ -1,38 +1,38 @@
 -- The summary of a trace decides every template. Each law is one induction over the trace, from any summary.
 -- Assumes nothing.
-use Prim.Native.Nat.{ℕ, zero, suc, _+_, _≤_, _<_}
+use Prim.Native.Nat.{ℕ, suc, _+_}
 use native.Mathlib.Omega.{arith}
-use native.Mathlib.Nat.{add-suc, add-zero, zero-add, suc-add}
+use native.Mathlib.Nat.{add-zero, zero-add}
 use mathlib.Core.Path.{_≡_, refl, sym, ap, ap₂, _∙_}
-use mathlib.Core.Bool.{Bool, true, false, not, _&&_, _||_}
+use mathlib.Core.Bool.{Bool, true, false, not, _&&_, _||_, or-assoc}
 use mathlib.Core.List.{List, [], _∷_, _++_, map, append-assoc, append-nil}
 use borrow.Author.Tests.{le-leb, lt-leb, leb-true, leb-false}
 use lib.Dec.{eqb, leb, leb·suc-suc, leb·zero}
 use lib.ListN.{getD, List·getD-map}
-use Rattle.declare.specs.declared.Verdict.{Verdict}
-use Rattle.declare.specs.Logic.{_and_, _or_, _implies_, if_then_else_}
-use Rattle.declare.specs.Meaning.{Test, Meaning, each-on, some-on, some, occurs, times, starts-with, ends-with, response, alternate-response, chain-response, precedence, alternate-precedence, chain-precedence, meanings, never, holds, activated-when, activated, verdict}
-use Rattle.declare.specs.Summary.{Summary, fresh, heard, stepped, after, answers, answer, summed}
-use Rattle.declare.proofs.Bools.{Expression, agree, by-cases}
-use Rattle.declare.proofs.Places.{occurs-on, occurs-cons, occurs-snoc, ends-snoc, b-before-a, unanswered, b-before-a-cons, unanswered-snoc}
+use Rattle.base.specs.Logic.{_implies_, if_then_else_}
+use Rattle.declare.specs.Meaning.{Test, Meaning, each-on, some, occurs, times, starts-with, ends-with, precedence, alternate-precedence, chain-precedence, meanings, never, holds, activated, verdict}
+use Rattle.declare.specs.Summary.{Summary, no-event-yet, stepped, after, answers, answer, summed}
+use Rattle.base.proofs.Bools.{Expression, agree, by-cases}
+use Rattle.declare.proofs.Places.{occurs-on, occurs-snoc, ends-snoc, b-before-a, unanswered, b-before-a-cons, unanswered-snoc}
 
 -- ## What has occurred
 
+-- One law for the two: a flag that takes up each occurrence of an activity.
+module _ (flag : Summary → Bool) (activity : Summary → ℕ) (takes-up : (s : Summary) (x : ℕ) → flag (stepped s x) ≡ flag s || eqb x (activity s))
+    (stays : (s : Summary) (x : ℕ) → activity (stepped s x) ≡ activity s) where
+  occurred : (s : Summary) (trace : List ℕ) → flag (after s trace) ≡ flag s || occurs (activity s) trace
+  unfolding agree
+  occurred s [] = by-cases 1 (λ p. p) (λ p. p || false) refl (flag s)
+  occurred s (x ∷ trace) =
+      rw (occurs-on (activity s) (x ∷ []) trace)
+      (occurred (stepped s x) trace
+      ∙ rw (takes-up s x, stays s x) (or-assoc (flag s) (eqb x (activity s)) (occurs (activity s) trace)))
+
 one-after : (s : Summary) (trace : List ℕ) → after s trace .one ≡ s .one || occurs (s .a) trace
-unfolding agree
-one-after s [] = by-cases 1 (λ p. p) (λ p. p || false) refl (s .one)
-one-after s (x ∷ trace) =
-    rw (occurs-on (s .a) (x ∷ []) trace)
-    (one-after (stepped s x) trace
-    ∙ by-cases 3 (λ p q r. (p || q) || r) (λ p q r. p || (q or r)) refl (s .one) (eqb x (s .a)) (occurs (s .a) trace))
+one-after = occurred (λ s. s .one) (λ s. s .a) (λ s x. refl) (λ s x. refl)
 
 seen-after : (s : Summary) (trace : List ℕ) → after s trace .seen ≡ s .seen || occurs (s .b) trace
-unfolding agree
-seen-after s [] = by-cases 1 (λ p. p) (λ p. p || false) refl (s .seen)
-seen-after s (x ∷ trace) =
-    rw (occurs-on (s .b) (x ∷ []) trace)
-    (seen-after (stepped s x) trace
-    ∙ by-cases 3 (λ p q r. (p || q) || r) (λ p q r. p || (q or r)) refl (s .seen) (eqb x (s .b)) (occurs (s .b) trace))
+seen-after = occurred (λ s. s .seen) (λ s. s .b) (λ s x. refl) (λ s x. refl)
 
 -- ## Each a, and what comes after it
 
@@ -41,14 +41,14 @@ abbrev at-each : ℕ → (List ℕ → Bool) → Test
 at-each a p before x after = eqb x a implies p after
 
 owed-after : (s : Summary) (before trace : List ℕ)
-    → not (after s trace .owed) ≡ (s .owed implies occurs (s .b) trace) and each-on before trace (at-each (s .a) (occurs (s .b)))
+    → not (after s trace .owed) ≡ (s .owed implies occurs (s .b) trace) && each-on before trace (at-each (s .a) (occurs (s .b)))
 unfolding agree
-owed-after s before [] = by-cases 1 (λ p. not p) (λ p. (p implies false) and true) refl (s .owed)
+owed-after s before [] = by-cases 1 (λ p. not p) (λ p. (p implies false) && true) refl (s .owed)
 owed-after s before (x ∷ trace) =
     rw (occurs-on (s .b) (x ∷ []) trace)
     (owed-after (stepped s x) (before ++ (x ∷ [])) trace
-    ∙ by-cases 5 (λ o is-a is-b h e. ((is-a || (o && not is-b)) implies h) and e)
-    (λ o is-a is-b h e. (o implies (is-b or h)) and ((is-a implies h) and e))
+    ∙ by-cases 5 (λ o is-a is-b h e. ((is-a || (o && not is-b)) implies h) && e)
+    (λ o is-a is-b h e. (o implies (is-b || h)) && ((is-a implies h) && e))
     refl
     (s .owed)
     (eqb x (s .a))
@@ -59,16 +59,16 @@ owed-after s before (x ∷ trace) =
 alternate-after : (s : Summary) (before trace : List ℕ)
     → not (after s trace .owed) && not (after s trace .doubled)
     ≡ not (s .doubled)
-    and ((s .owed implies some trace (b-before-a (s .a) (s .b)))
-    and each-on before trace (at-each (s .a) (λ after. some after (b-before-a (s .a) (s .b)))))
+    && ((s .owed implies some trace (b-before-a (s .a) (s .b)))
+    && each-on before trace (at-each (s .a) (λ after. some after (b-before-a (s .a) (s .b)))))
 unfolding agree
 alternate-after s before [] =
-    by-cases 2 (λ o d. not o && not d) (λ o d. not d and ((o implies false) and true)) refl (s .owed) (s .doubled)
+    by-cases 2 (λ o d. not o && not d) (λ o d. not d && ((o implies false) && true)) refl (s .owed) (s .doubled)
 alternate-after s before (x ∷ trace) =
     rw (b-before-a-cons (s .a) (s .b) x trace)
     (alternate-after (stepped s x) (before ++ (x ∷ [])) trace
-    ∙ by-cases 6 (λ d o is-a is-b h e. not (d || (is-a && (o && not is-b))) and (((is-a || (o && not is-b)) implies h) and e))
-    (λ d o is-a is-b h e. not d and ((o implies (is-b or (not is-a and h))) and ((is-a implies h) and e)))
+    ∙ by-cases 6 (λ d o is-a is-b h e. not (d || (is-a && (o && not is-b))) && (((is-a || (o && not is-b)) implies h) && e))
+    (λ d o is-a is-b h e. not d && ((o implies (is-b || (not is-a && h))) && ((is-a implies h) && e)))
     refl
     (s .doubled)
     (s .owed)
@@ -79,14 +79,14 @@ alternate-after s before (x ∷ trace) =
 
 chain-after : (s : Summary) (before trace : List ℕ)
     → not (after s trace .missed) && not (after s trace .last)
-    ≡ not (s .missed) and ((s .last implies starts-with (s .b) trace) and each-on before trace (at-each (s .a) (starts-with (s .b))))
+    ≡ not (s .missed) && ((s .last implies starts-with (s .b) trace) && each-on before trace (at-each (s .a) (starts-with (s .b))))
 unfolding agree
 chain-after s before [] =
-    by-cases 2 (λ m l. not m && not l) (λ m l. not m and ((l implies false) and true)) refl (s .missed) (s .last)
+    by-cases 2 (λ m l. not m && not l) (λ m l. not m && ((l implies false) && true)) refl (s .missed) (s .last)
 chain-after s before (x ∷ trace) =
     chain-after (stepped s x) (before ++ (x ∷ [])) trace
-    ∙ by-cases 6 (λ m l is-a is-b h e. not (m || (l && not is-b)) and ((is-a implies h) and e))
-    (λ m l is-a is-b h e. not m and ((l implies is-b) and ((is-a implies h) and e)))
+    ∙ by-cases 6 (λ m l is-a is-b h e. not (m || (l && not is-b)) && ((is-a implies h) && e))
+    (λ m l is-a is-b h e. not m && ((l implies is-b) && ((is-a implies h) && e)))
     refl
     (s .missed)
     (s .last)
@@ -98,14 +98,14 @@ chain-after s before (x ∷ trace) =
 later-after : (s : Summary) (before trace : List ℕ)
     → not (after s trace .later)
     ≡ not (s .later)
-    and ((s .one implies not (occurs (s .b) trace)) and each-on before trace (at-each (s .a) (λ after. not (occurs (s .b) after))))
+    && ((s .one implies not (occurs (s .b) trace)) && each-on before trace (at-each (s .a) (λ after. not (occurs (s .b) after))))
 unfolding agree
-later-after s before [] = by-cases 2 (λ l o. not l) (λ l o. not l and ((o implies true) and true)) refl (s .later) (s .one)
+later-after s before [] = by-cases 2 (λ l o. not l) (λ l o. not l && ((o implies true) && true)) refl (s .later) (s .one)
 later-after s before (x ∷ trace) =
     rw (occurs-on (s .b) (x ∷ []) trace)
     (later-after (stepped s x) (before ++ (x ∷ [])) trace
-    ∙ by-cases 6 (λ l o is-a is-b h e. not (l || (is-b && o)) and (((o || is-a) implies not h) and e))
-    (λ l o is-a is-b h e. not l and ((o implies not (is-b or h)) and ((is-a implies not h) and e)))
+    ∙ by-cases 6 (λ l o is-a is-b h e. not (l || (is-b && o)) && (((o || is-a) implies not h) && e))
+    (λ l o is-a is-b h e. not l && ((o implies not (is-b || h)) && ((is-a implies not h) && e)))
     refl
     (s .later)
     (s .one)
@@ -117,13 +117,13 @@ later-after s before (x ∷ trace) =
 next-after : (s : Summary) (before trace : List ℕ)
     → not (after s trace .next)
     ≡ not (s .next)
-    and ((s .last implies not (starts-with (s .b) trace)) and each-on before trace (at-each (s .a) (λ after. not (starts-with (s .b) after))))
+    && ((s .last implies not (starts-with (s .b) trace)) && each-on before trace (at-each (s .a) (λ after. not (starts-with (s .b) after))))
 unfolding agree
-next-after s before [] = by-cases 2 (λ n l. not n) (λ n l. not n and ((l implies true) and true)) refl (s .next) (s .last)
+next-after s before [] = by-cases 2 (λ n l. not n) (λ n l. not n && ((l implies true) && true)) refl (s .next) (s .last)
 next-after s before (x ∷ trace) =
     next-after (stepped s x) (before ++ (x ∷ [])) trace
-    ∙ by-cases 6 (λ n l is-a is-b h e. not (n || (is-b && l)) and ((is-a implies not h) and e))
-    (λ n l is-a is-b h e. not n and ((l implies not is-b) and ((is-a implies not h) and e)))
+    ∙ by-cases 6 (λ n l is-a is-b h e. not (n || (is-b && l)) && ((is-a implies not h) && e))
+    (λ n l is-a is-b h e. not n && ((l implies not is-b) && ((is-a implies not h) && e)))
     refl
     (s .next)
     (s .last)
@@ -136,49 +136,49 @@ next-after s before (x ∷ trace) =
 
 -- One law for the three: `ready` keeps up with a test of what came before, and each b that finds it false is noted in `bad`.
 module _ (a b : ℕ) (test : List ℕ → Bool) (ready bad : Summary → Bool)
-    (noted : (s : Summary) (x : ℕ) → s .b ≡ b → bad (stepped s x) ≡ bad s || (eqb x b && not (ready s)))
+    (marks : (s : Summary) (x : ℕ) → s .b ≡ b → bad (stepped s x) ≡ bad s || (eqb x b && not (ready s)))
     (keeps : (s : Summary) (x : ℕ) (before : List ℕ) → s .a ≡ a → s .b ≡ b → ready s ≡ test before
     → ready (stepped s x) ≡ test (before ++ (x ∷ []))) where
-  noted-after : (s : Summary) (before trace : List ℕ) → s .a ≡ a → s .b ≡ b → ready s ≡ test before
-      → not (bad (after s trace)) ≡ not (bad s) and each-on before trace (λ before x after. eqb x b implies test before)
+  marked-after : (s : Summary) (before trace : List ℕ) → s .a ≡ a → s .b ≡ b → ready s ≡ test before
+      → not (bad (after s trace)) ≡ not (bad s) && each-on before trace (λ before x after. eqb x b implies test before)
   unfolding agree
-  noted-after s before [] d e h = by-cases 1 (λ p. not p) (λ p. not p and true) refl (bad s)
-  noted-after s before (x ∷ trace) d e h =
-      noted-after (stepped s x) (before ++ (x ∷ [])) trace d e (keeps s x before d e h)
-      ∙ rw (noted s x e, h)
-      (by-cases 4 (λ p is-b t r. not (p || (is-b && not t)) and r) (λ p is-b t r. not p and ((is-b implies t) and r)) refl
+  marked-after s before [] d e h = by-cases 1 (λ p. not p) (λ p. not p && true) refl (bad s)
+  marked-after s before (x ∷ trace) d e h =
+      marked-after (stepped s x) (before ++ (x ∷ [])) trace d e (keeps s x before d e h)
+      ∙ rw (marks s x e, h)
+      (by-cases 4 (λ p is-b t r. not (p || (is-b && not t)) && r) (λ p is-b t r. not p && ((is-b implies t) && r)) refl
       (bad s)
       (eqb x b)
       (test before)
       (each-on (before ++ (x ∷ [])) trace (λ before x after. eqb x b implies test before)))
 
-early-after : (a b : ℕ) (trace : List ℕ) → not (after (fresh a b) trace .early) ≡ precedence a b trace
+early-after : (a b : ℕ) (trace : List ℕ) → not (after (no-event-yet a b) trace .early) ≡ precedence a b trace
 unfolding agree
 early-after a b trace =
-    noted-after a b (occurs a) (λ s. s .one) (λ s. s .early) (λ s x e. ap (λ (n : ℕ). s .early || (eqb x n && not (s .one))) e)
+    marked-after a b (occurs a) (λ s. s .one) (λ s. s .early) (λ s x e. ap (λ (n : ℕ). s .early || (eqb x n && not (s .one))) e)
     (λ s x before d e h.
     ap₂ (λ (p : Bool) (n : ℕ). p || eqb x n) h d
-    ∙ by-cases 2 (λ p q. p || q) (λ p q. p or q) refl (occurs a before) (eqb x a)
+    ∙ by-cases 2 (λ p q. p || q) (λ p q. p || q) refl (occurs a before) (eqb x a)
     ∙ sym (occurs-snoc a x before))
-    (fresh a b) [] trace refl refl refl
+    (no-event-yet a b) [] trace refl refl refl
 
-bare-after : (a b : ℕ) (trace : List ℕ) → not (after (fresh a b) trace .bare) ≡ alternate-precedence a b trace
+bare-after : (a b : ℕ) (trace : List ℕ) → not (after (no-event-yet a b) trace .bare) ≡ alternate-precedence a b trace
 unfolding agree
 bare-after a b trace =
-    noted-after a b (λ before. some before (unanswered a b)) (λ s. s .owed) (λ s. s .bare)
+    marked-after a b (λ before. some before (unanswered a b)) (λ s. s .owed) (λ s. s .bare)
     (λ s x e. ap (λ (n : ℕ). s .bare || (eqb x n && not (s .owed))) e)
     (λ s x before d e h.
     ap (λ (p : Bool). eqb x (s .a) || (p && not (eqb x (s .b)))) h
     ∙ ap₂ (λ (m n : ℕ). eqb x m || (some before (unanswered a b) && not (eqb x n))) d e
-    ∙ by-cases 3 (λ p q r. p || (q && not r)) (λ p q r. p or (q and not r)) refl (eqb x a) (some before (unanswered a b)) (eqb x b)
+    ∙ by-cases 3 (λ p q r. p || (q && not r)) (λ p q r. p || (q && not r)) refl (eqb x a) (some before (unanswered a b)) (eqb x b)
     ∙ sym (unanswered-snoc a b x [] before))
-    (fresh a b) [] trace refl refl refl
+    (no-event-yet a b) [] trace refl refl refl
 
-loose-after : (a b : ℕ) (trace : List ℕ) → not (after (fresh a b) trace .loose) ≡ chain-precedence a b trace
+loose-after : (a b : ℕ) (trace : List ℕ) → not (after (no-event-yet a b) trace .loose) ≡ chain-precedence a b trace
 loose-after a b trace =
-    noted-after a b (ends-with a) (λ s. s .last) (λ s. s .loose) (λ s x e. ap (λ (n : ℕ). s .loose || (eqb x n && not (s .last))) e)
+    marked-after a b (ends-with a) (λ s. s .last) (λ s. s .loose) (λ s x e. ap (λ (n : ℕ). s .loose || (eqb x n && not (s .last))) e)
     (λ s x before d e h. ap (λ (n : ℕ). eqb x n) d ∙ sym (ends-snoc a x before))
-    (fresh a b) [] trace refl refl refl
+    (no-event-yet a b) [] trace refl refl refl
 
 -- ## How often, first and last
 
@@ -253,11 +253,11 @@ p then q = ap₂ _∷_ p q
 
 module _ (a b : ℕ) (trace : List ℕ) where
   end : Summary
-  end = after (fresh a b) trace
+  end = after (no-event-yet a b) trace
 
   counts : Counts end (times a trace)
   unfolding end
-  counts = rw zero-add at (counts-after (fresh a b) 0 trace (refl, refl, refl))
+  counts = rw zero-add at (counts-after (no-event-yet a b) 0 trace (refl, refl, refl))
 
   at-most : (p : Bool) (k : ℕ) → p ≡ leb (suc k) (times a trace) → not p ≡ leb (times a trace) k
   at-most p k h = ap not h ∙ not-more (times a trace) k
@@ -265,17 +265,17 @@ module _ (a b : ℕ) (trace : List ℕ) where
   -- an expression in whether a and b have occurred
   occurring : (f g : Expression 2) → agree 2 f g ≡ true → f (end .one) (end .seen) ≡ g (occurs a trace) (occurs b trace)
   unfolding end
-  occurring f g h = ap₂ f (one-after (fresh a b) trace) (seen-after (fresh a b) trace) ∙ by-cases 2 f g h (occurs a trace) (occurs b trace)
+  occurring f g h = ap₂ f (one-after (no-event-yet a b) trace) (seen-after (no-event-yet a b) trace) ∙ by-cases 2 f g h (occurs a trace) (occurs b trace)
 
-  both : {p q p′ q′ : Bool} → p ≡ p′ → q ≡ q′ → p && q ≡ p′ and q′
+  both : {p q p′ q′ : Bool} → p ≡ p′ → q ≡ q′ → p && q ≡ p′ && q′
   unfolding agree
-  both {p′ = p′} {q′ = q′} h k = ap₂ _&&_ h k ∙ by-cases 2 (λ p q. p && q) (λ p q. p and q) refl p′ q′
+  both {p′ = p′} {q′ = q′} h k = ap₂ _&&_ h k ∙ by-cases 2 (λ p q. p && q) (λ p q. p && q) refl p′ q′
 
   -- the table of answers is the list of the templates' meanings
   answers-right : answers end ≡ map (λ (m : Meaning). m a b trace) (never ∷ meanings)
   unfolding meanings agree end
   answers-right =
-      let s = fresh a b in
+      let s = no-event-yet a b in
       refl
       then counts .0
       then counts .1
@@ -285,10 +285,10 @@ module _ (a b : ℕ) (trace : List ℕ) where
       then at-most (end .three) 2 (counts .2)
       then first-after s trace
       then last-after s [] trace refl
-      then occurring (λ p q. p || q) (λ p q. p or q) refl
+      then occurring (λ p q. p || q) (λ p q. p || q) refl
       then occurring (λ p q. (p || q) && not (p && q)) (λ p q. if p then not q else q) refl
       then occurring (λ p q. (p && q) || not (p || q)) (λ p q. if p then q else not q) refl
-      then occurring (λ p q. not (p && q)) (λ p q. not (p and q)) refl
+      then occurring (λ p q. not (p && q)) (λ p q. not (p && q)) refl
       then occurring (λ p q. not p || q) (λ p q. p implies q) refl
       then owed-after s [] trace
       then alternate-after s [] trace
@@ -310,10 +310,10 @@ module _ (a b : ℕ) (trace : List ℕ) where
       ∙ List·getD-map (λ (m : Meaning). m a b trace) (never ∷ meanings) template never
 
 -- after any trace, for every template number and every a and b, the verdict read off the summary is the verdict of the definitions
-pub decides : (template a b : ℕ) (trace : List ℕ) → summed (after (fresh a b) trace) template ≡ verdict template a b trace
+pub decides : (template a b : ℕ) (trace : List ℕ) → summed (after (no-event-yet a b) trace) template ≡ verdict template a b trace
 unfolding summed verdict activated end
 decides template a b trace =
-    simp (one-after (fresh a b) trace, seen-after (fresh a b) trace, answer-right a b trace template)
+    simp (one-after (no-event-yet a b) trace, seen-after (no-event-yet a b) trace, answer-right a b trace template)
 
 -- one event more
 pub after-snoc : (s : Summary) (trace : List ℕ) (x : ℕ) → after s (trace ++ (x ∷ [])) ≡ stepped (after s trace) x

@@ -1,4 +1,3 @@
-pub mod Logic
 pub mod Meaning
 pub mod Summary
 pub mod States

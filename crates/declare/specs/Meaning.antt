@@ -1,13 +1,13 @@
--- What the 24 templates mean on a trace (document 01: a run), after its section of that name.
+-- What the 24 templates mean on a trace of activities (document 01: a run of steps), after its section of that name.
 -- Assumes nothing.
-use Prim.Native.Nat.{ℕ, suc, _+_, _-_}
-use mathlib.Core.Bool.{Bool, true, false, not}
+use Prim.Native.Nat.{ℕ, suc, _+_}
+use mathlib.Core.Bool.{Bool, true, false, not, _&&_, _||_}
 use mathlib.Core.List.{List, [], _∷_, _++_}
-use lib.Dec.{eqb, leb, ltb}
-use lib.ListN.{length, getD}
+use lib.Dec.{eqb, leb}
+use lib.ListN.{getD}
 use Rattle.declare.specs.declared.Verdict.{Verdict}
 use Rattle.declare.specs.declared.Verdict.the-variants.{Fulfilled, NotActivated, Violated}
-use Rattle.declare.specs.Logic.{_and_, _or_, _implies_, if_then_else_}
+use Rattle.base.specs.Logic.{_implies_, if_then_else_}
 
 -- A test of a place of a trace: of what comes before it, the activity there, and what comes after it.
 abbrev pub Test : Type 0
@@ -15,11 +15,11 @@ Test = List ℕ → ℕ → List ℕ → Bool
 
 abbrev pub each-on : List ℕ → List ℕ → Test → Bool
 each-on before [] p = true
-each-on before (x ∷ after) p = p before x after and each-on (before ++ (x ∷ [])) after p
+each-on before (x ∷ after) p = p before x after && each-on (before ++ (x ∷ [])) after p
 
 abbrev pub some-on : List ℕ → List ℕ → Test → Bool
 some-on before [] p = false
-some-on before (x ∷ after) p = p before x after or some-on (before ++ (x ∷ [])) after p
+some-on before (x ∷ after) p = p before x after || some-on (before ++ (x ∷ [])) after p
 
 -- the test passes at each place of the trace
 abbrev pub each : List ℕ → Test → Bool
@@ -57,7 +57,7 @@ response a b trace = each trace (λ before x after. eqb x a implies occurs b aft
 -- 15: each a has a later b with no a strictly between
 abbrev pub alternate-response : Meaning
 alternate-response a b trace =
-    each trace (λ before x after. eqb x a implies some after (λ between y rest. eqb y b and not (occurs a between)))
+    each trace (λ before x after. eqb x a implies some after (λ between y rest. eqb y b && not (occurs a between)))
 
 -- 16: each a has b as the very next step
 abbrev pub chain-response : Meaning
@@ -70,7 +70,7 @@ precedence a b trace = each trace (λ before x after. eqb x b implies occurs a b
 -- 18: each b has an earlier a with no b strictly between
 abbrev pub alternate-precedence : Meaning
 alternate-precedence a b trace =
-    each trace (λ before x after. eqb x b implies some before (λ start y between. eqb y a and not (occurs b between)))
+    each trace (λ before x after. eqb x b implies some before (λ start y between. eqb y a && not (occurs b between)))
 
 -- 19: each b has a as the step just before
 abbrev pub chain-precedence : Meaning
@@ -91,13 +91,13 @@ meanings =
     (λ a b trace. starts-with a trace) ∷
     (λ a b trace. ends-with a trace) ∷
     -- 9 a or b occurs
-    (λ a b trace. occurs a trace or occurs b trace) ∷
+    (λ a b trace. occurs a trace || occurs b trace) ∷
     -- 10 exactly one of the two occurs
     (λ a b trace. if occurs a trace then not (occurs b trace) else occurs b trace) ∷
     -- 11 both occur or neither
     (λ a b trace. if occurs a trace then occurs b trace else not (occurs b trace)) ∷
     -- 12 not both occur
-    (λ a b trace. not (occurs a trace and occurs b trace)) ∷
+    (λ a b trace. not (occurs a trace && occurs b trace)) ∷
     -- 13 if a occurs, b occurs
     (λ a b trace. occurs a trace implies occurs b trace) ∷
     -- 14 to 19
@@ -108,9 +108,9 @@ meanings =
     alternate-precedence ∷
     chain-precedence ∷
     -- 20 is 14 and 17; 21 is 15 and 18; 22 is 16 and 19
-    (λ a b trace. response a b trace and precedence a b trace) ∷
-    (λ a b trace. alternate-response a b trace and alternate-precedence a b trace) ∷
-    (λ a b trace. chain-response a b trace and chain-precedence a b trace) ∷
+    (λ a b trace. response a b trace && precedence a b trace) ∷
+    (λ a b trace. alternate-response a b trace && alternate-precedence a b trace) ∷
+    (λ a b trace. chain-response a b trace && chain-precedence a b trace) ∷
     -- 23 no a has a later b
     (λ a b trace. each trace (λ before x after. eqb x a implies not (occurs b after))) ∷
     -- 24 no a has b as the very next step
@@ -126,7 +126,7 @@ unfolding meanings
 holds template a b trace = getD (never ∷ meanings) template never a b trace
 
 abbrev pub between : ℕ → ℕ → ℕ → Bool
-between low n high = leb low n and leb n high
+between low n high = leb low n && leb n high
 
 -- 1 to 10 always; 13 to 16 when a occurs; 17 to 19 when b occurs; 11, 12 and 20 to 24 when a or b occurs
 abbrev pub activated-when : ℕ → Bool → Bool → Bool
@@ -134,7 +134,7 @@ activated-when template a-occurs b-occurs =
     if between 1 template 10 then true
     else if between 13 template 16 then a-occurs
     else if between 17 template 19 then b-occurs
-    else if between 11 template 24 then a-occurs or b-occurs
+    else if between 11 template 24 then a-occurs || b-occurs
     else false
 
 unfoldable pub activated : ℕ → Meaning
@@ -142,7 +142,7 @@ activated template a b trace = activated-when template (occurs a trace) (occurs 
 
 -- the constraint is activated and holds
 unfoldable pub fulfilled : ℕ → Meaning
-fulfilled template a b trace = activated template a b trace and holds template a b trace
+fulfilled template a b trace = activated template a b trace && holds template a b trace
 
 -- fulfilled when the constraint is activated and holds, not activated (01: idle) when it is not activated, violated (01: broken) otherwise
 unfoldable pub verdict : ℕ → ℕ → ℕ → List ℕ → Verdict

@@ -11,9 +11,9 @@ use lib.ListN.{getD}
 use Rattle.declare.specs.declared.Verdict.{Verdict}
 use Rattle.declare.specs.declared.Verdict.the-variants.{Fulfilled, NotActivated, Violated}
 use Rattle.declare.specs.declared.Replayer.{Replayer}
-use Rattle.declare.specs.Logic.{if_then_else_}
+use Rattle.base.specs.Logic.{if_then_else_}
 use Rattle.declare.specs.Meaning.{activated-when}
-use Rattle.declare.specs.Summary.{Summary, summary, flags-of, heard, answers}
+use Rattle.declare.specs.Summary.{Summary, summary, flags-of, with-event, answers}
 
 -- the lowest bits of a number, so many of them
 abbrev pub bits : ℕ → ℕ → List Bool
@@ -46,28 +46,28 @@ abbrev pub start : ℕ → ℕ → Replayer
 start a b = record { a = a; b = b; state = 0 }
 
 -- one event on
-abbrev pub led : List ℕ → Replayer → ℕ → Replayer
-led next r event = record { a = r .a; b = r .b; state = getD next (r .state * 4 + letter (r .a) (r .b) event) 0 }
+abbrev pub advance : List ℕ → Replayer → ℕ → Replayer
+advance next r event = record { a = r .a; b = r .b; state = getD next (r .state * 4 + letter (r .a) (r .b) event) 0 }
 
-abbrev pub led-all : List ℕ → Replayer → List ℕ → Replayer
-led-all next r [] = r
-led-all next r (event ∷ trace) = led-all next (led next r event) trace
+abbrev pub advance-all : List ℕ → Replayer → List ℕ → Replayer
+advance-all next r [] = r
+advance-all next r (event ∷ trace) = advance-all next (advance next r event) trace
 
 -- the verdict that a word of marks gives: bit t says whether template t holds, bit 1 so whether a occurs, and bit 25 whether b does
-unfoldable pub told : ℕ → ℕ → Verdict
-told word template =
+unfoldable pub marks-verdict : ℕ → ℕ → Verdict
+marks-verdict word template =
     if activated-when template (bit word 1) (bit word 25) then (if bit word template then Fulfilled else Violated) else NotActivated
 
 -- ## By the right tables
 
 -- each entry of the table of next states leads to the summary after the event; it is one of the 185 states, so no other table does this
-pub record Leads (next : List ℕ) : Type 0 where
+pub record NextTable (next : List ℕ) : Type 0 where
   pub right :
       (state letter : ℕ) → state < 256 → letter < 4 →
-      flags (getD next (state * 4 + letter) 0) ≡ flags-of (heard (summary-of state) (eqb (letter % 2) 1) (leb 2 letter))
+      flags (getD next (state * 4 + letter) 0) ≡ flags-of (with-event (summary-of state) (eqb (letter % 2) 1) (leb 2 letter))
   pub small : (state letter : ℕ) → state < 256 → letter < 4 → getD next (state * 4 + letter) 0 < 185
 
 -- each entry of the table of marks has the summary's answers as its bits, then whether b has occurred, and no bit more
-pub record Tells (marks : List ℕ) : Type 0 where
+pub record MarksTable (marks : List ℕ) : Type 0 where
   pub right : (state : ℕ) → state < 256 → bits 26 (getD marks state 0) ≡ answers (summary-of state) ++ (summary-of state .seen ∷ [])
   pub small : (state : ℕ) → state < 256 → getD marks state 0 < 2 ^ 26

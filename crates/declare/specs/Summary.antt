@@ -8,7 +8,7 @@ use lib.Dec.{eqb}
 use lib.ListN.{getD}
 use Rattle.declare.specs.declared.Verdict.{Verdict}
 use Rattle.declare.specs.declared.Verdict.the-variants.{Fulfilled, NotActivated, Violated}
-use Rattle.declare.specs.Logic.{if_then_else_}
+use Rattle.base.specs.Logic.{if_then_else_}
 use Rattle.declare.specs.Meaning.{activated-when}
 
 -- What the events so far tell of the activities a and b.
@@ -68,8 +68,8 @@ flags-of s =
     s .one ∷ s .two ∷ s .three ∷ s .seen ∷ s .started ∷ s .first ∷ s .last ∷ s .owed ∷ s .doubled ∷ s .missed ∷ s .early ∷ s .bare ∷ s .loose ∷ s .later ∷ s .next ∷ []
 
 -- before the first event
-abbrev pub fresh : ℕ → ℕ → Summary
-fresh a b =
+abbrev pub no-event-yet : ℕ → ℕ → Summary
+no-event-yet a b =
     record {
       a = a;
       b = b;
@@ -91,8 +91,8 @@ fresh a b =
     }
 
 -- after one more event, which is a or not, and b or not
-abbrev pub heard : Summary → Bool → Bool → Summary
-heard s is-a is-b =
+abbrev pub with-event : Summary → Bool → Bool → Summary
+with-event s is-a is-b =
     record {
       a = s .a;
       b = s .b;
@@ -114,7 +114,7 @@ heard s is-a is-b =
     }
 
 abbrev pub stepped : Summary → ℕ → Summary
-stepped s event = heard s (eqb event (s .a)) (eqb event (s .b))
+stepped s event = with-event s (eqb event (s .a)) (eqb event (s .b))
 
 -- after a trace
 abbrev pub after : Summary → List ℕ → Summary

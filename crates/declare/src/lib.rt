@@ -5,7 +5,7 @@ ghost use mathlib.Core.Path.{_≡_};
 ghost use Prim.Native.Nat.{_<_};
 ghost use lib.ListN.{getD};
 ghost use Rattle.declare.specs.Meaning.{verdict, activated-when};
-ghost use Rattle.declare.specs.States.{bit as bit-of, start, led, led-all, told as told-by, Leads, Tells};
+ghost use Rattle.declare.specs.States.{bit as bit-of, start, advance, advance-all, marks-verdict as verdict-by, NextTable, MarksTable};
 
 // What a trace is for a constraint (document 01: a run for a rule): fulfilled, not activated (01: idle), or violated (01: broken).
 pub enum Verdict {
@@ -23,14 +23,14 @@ pub struct Replayer {
 
 // The table by which a replayer goes from state to state. Whoever replays many traces makes it once.
 pub fn next_states() -> [u8; 1024]
-    ensures { λ r. ⌜ Leads r ⌝ }
+    ensures { λ r. ⌜ NextTable r ⌝ }
 {
     tables::NEXT
 }
 
 // The table of what each state tells of every template.
 pub fn state_marks() -> [u32; 256]
-    ensures { λ r. ⌜ Tells r ⌝ }
+    ensures { λ r. ⌜ MarksTable r ⌝ }
 {
     tables::MARKS
 }
@@ -55,8 +55,8 @@ fn activated(template: u8, a_occurs: bool, b_occurs: bool) -> bool
 }
 
 // The verdict that a state's marks give.
-fn told(marks: u32, template: u8) -> Verdict
-    ensures { λ r. ⌜ r ≡ told-by marks template ⌝ }
+fn marks_verdict(marks: u32, template: u8) -> Verdict
+    ensures { λ r. ⌜ r ≡ verdict-by marks template ⌝ }
 {
     if !activated(template, bit(marks, 1), bit(marks, 25)) {
         return Verdict::NotActivated;
@@ -78,7 +78,7 @@ impl Replayer {
 
     // Consumes one event.
     pub fn step(mut self, next: &[u8; 1024], event: u8) -> Replayer
-        ensures { λ r. ⌜ r ≡ led (now (next .entry)) self event ⌝ }
+        ensures { λ r. ⌜ r ≡ advance (now (next .entry)) self event ⌝ }
     {
         let is_a = event == self.a;
         let is_b = event == self.b;
@@ -89,10 +89,10 @@ impl Replayer {
 
     // The verdict on the events so far.
     pub fn verdict(self, marks: &[u32; 256], template: u8) -> Verdict
-        ensures { λ r. ⌜ r ≡ told-by (getD (now (marks .entry)) (self .state) 0) template ⌝ }
+        ensures { λ r. ⌜ r ≡ verdict-by (getD (now (marks .entry)) (self .state) 0) template ⌝ }
     {
         let at = self.state as usize;
-        told(marks[at], template)
+        marks_verdict(marks[at], template)
     }
 }
 
@@ -105,7 +105,7 @@ pub fn replay_by(
     b: u8,
     trace: &[u8],
 ) -> Verdict
-    ensures { λ r. ⌜ r ≡ told-by (getD (now (marks .entry)) (led-all (now (next .entry)) (start a b) (now (trace .entry)) .state) 0) template ⌝ }
+    ensures { λ r. ⌜ r ≡ verdict-by (getD (now (marks .entry)) (advance-all (now (next .entry)) (start a b) (now (trace .entry)) .state) 0) template ⌝ }
 {
     let mut state = Replayer::new(a, b);
     let mut at = 0;

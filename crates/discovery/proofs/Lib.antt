@@ -1,4 +1,4 @@
-pub mod Finding
+pub mod FindContract
 pub mod Listing
 pub mod Occurrence
 pub mod Orderless

@@ -2,30 +2,19 @@
 -- Assumes nothing.
 use Prim.Native.Nat.{ℕ, zero, suc, _+_, _*_, _≤_, _<_}
 use mathlib.Core.Path.{_≡_, refl, sym, _∙_}
-use mathlib.Core.Bool.{Bool, true, false, not, true≢false, false≢true}
+use mathlib.Core.Bool.{Bool, true, false, not, true≢false, false≢true, _&&_, _||_, and-false}
 use mathlib.Core.List.{List, [], _∷_, _++_}
 use native.Mathlib.Omega.{arith}
 use native.Mathlib.Decide.{ℕ-discrete, decLt}
 use borrow.Author.Tests.{leb-true, le-leb, lt-leb}
 use lib.Dec.{eqb, leb}
-use lib.ListN.{length}
 use lib.Seq.{append-snoc}
-use Rattle.declare.specs.Logic.{_and_, _or_, _implies_, if_then_else_}
+use Rattle.base.specs.Logic.{_implies_, if_then_else_}
 use Rattle.declare.specs.Meaning.{Test, each-on, some-on, each, some, occurs, times, starts-with, ends-with, response, alternate-response, chain-response, precedence, alternate-precedence, chain-precedence, meanings, holds, activated, fulfilled}
-use Rattle.declare.proofs.Bools.{and-left, and-right, and-both}
-use Rattle.discovery.specs.Lists.{those, how-many}
+use Rattle.base.proofs.Bools.{and-left, and-right, and-both, implied, fails-too}
+use Rattle.base.proofs.Lists.{count-weaker}
 use Rattle.discovery.specs.declared.Constraint.{Constraint}
-use Rattle.discovery.specs.Constraints.{class-of, counts-for, fulfilments, support, meets, trace-count, survives}
-
--- ## Tests joined
-
-implied : (p q : Bool) → (p implies q) ≡ true → p ≡ true → q ≡ true
-implied true q h k = h
-implied false q h k = absurd (false≢true k)
-
-fails-too : (p q : Bool) → (p ≡ true → q ≡ true) → q ≡ false → p ≡ false
-fails-too true q f h = sym (f refl) ∙ h
-fails-too false q f h = refl
+use Rattle.discovery.specs.Constraints.{class-of, counts-for, fulfilments, support, Question, always, meets, survives, is-listed}
 
 -- ## What occurs, by how often it does
 
@@ -37,7 +26,7 @@ times-append : (a : ℕ) (u v : List ℕ) → times a (u ++ v) ≡ times a u + t
 times-append a [] v = omega arith
 times-append a (x ∷ u) v = add-if (eqb x a) _ _ _ (times-append a u v)
 
-or-leb : (t p : Bool) (k : ℕ) → p ≡ leb 1 k → (t or p) ≡ leb 1 (if t then suc k else k)
+or-leb : (t p : Bool) (k : ℕ) → p ≡ leb 1 k → (t || p) ≡ leb 1 (if t then suc k else k)
 or-leb true p k h = sym (le-leb 1 (suc k) (omega arith))
 or-leb false p k h = h
 
@@ -81,7 +70,7 @@ ends-occurs a trace h = occurs-often a trace (ends-often a trace h)
 
 -- ## Places
 
-or-weaker : (p q r s : Bool) → (p ≡ true → q ≡ true) → (r ≡ true → s ≡ true) → (p or r) ≡ true → (q or s) ≡ true
+or-weaker : (p q r s : Bool) → (p ≡ true → q ≡ true) → (r ≡ true → s ≡ true) → (p || r) ≡ true → (q || s) ≡ true
 or-weaker true q r s f g h = rw (f refl)
 or-weaker false true r s f g h = refl
 or-weaker false false r s f g h = g h
@@ -108,7 +97,7 @@ module _
     where
       go :
           (t : Bool) → (t implies q before x trace) ≡ true →
-          (t or some-on (before ++ (x ∷ [])) trace (λ before x after. eqb x c)) ≡ true →
+          (t || some-on (before ++ (x ∷ [])) trace (λ before x after. eqb x c)) ≡ true →
           (some-on (before ++ (x ∷ [])) trace (λ before x after. eqb x c) ≡ true → occurs d (before ++ (x ∷ trace)) ≡ true) →
           occurs d (before ++ (x ∷ trace)) ≡ true
       go true h k f = shows before x trace h
@@ -126,30 +115,30 @@ before-shows : (d : ℕ) (before : List ℕ) (x : ℕ) (after : List ℕ) → oc
 before-shows d before x after = occurs-before d before (x ∷ after)
 
 -- a d at which something else holds too
-some-occurs : (d : ℕ) (r : Test) (trace : List ℕ) → some trace (λ before y after. eqb y d and r before y after) ≡ true → occurs d trace ≡ true
+some-occurs : (d : ℕ) (r : Test) (trace : List ℕ) → some trace (λ before y after. eqb y d && r before y after) ≡ true → occurs d trace ≡ true
 some-occurs d r = some-weaker _ _ (λ before y after h. and-left (eqb y d) (r before y after) h) []
 
 -- ## The 24 templates: a, b and what holds, by the way in which a template is activated
 
-exclusive : (p q : Bool) → (if p then not q else q) ≡ true → (p or q) ≡ true
+exclusive : (p q : Bool) → (if p then not q else q) ≡ true → (p || q) ≡ true
 exclusive true q h = refl
 exclusive false q h = h
 
-together : (p q : Bool) → ((p or q) and (if p then q else not q)) ≡ true → (p and q) ≡ true
+together : (p q : Bool) → ((p || q) && (if p then q else not q)) ≡ true → (p && q) ≡ true
 together true q h = h
 together false true h = absurd (false≢true h)
 together false false h = h
 
-by-a : (p q r : Bool) → (r ≡ true → p ≡ true → q ≡ true) → (p and r) ≡ true → (p and q) ≡ true
+by-a : (p q r : Bool) → (r ≡ true → p ≡ true → q ≡ true) → (p && r) ≡ true → (p && q) ≡ true
 by-a true q r f h = f h refl
 by-a false q r f h = h
 
-by-b : (p q r : Bool) → (r ≡ true → q ≡ true → p ≡ true) → (q and r) ≡ true → (p and q) ≡ true
+by-b : (p q r : Bool) → (r ≡ true → q ≡ true → p ≡ true) → (q && r) ≡ true → (p && q) ≡ true
 by-b p q r f h = and-both p q (f (and-right q r h) (and-left q r h)) (and-left q r h)
 
 by-either :
     (p q r s : Bool) → (r ≡ true → p ≡ true → q ≡ true) → (s ≡ true → q ≡ true → p ≡ true) →
-    ((p or q) and (r and s)) ≡ true → (p and q) ≡ true
+    ((p || q) && (r && s)) ≡ true → (p && q) ≡ true
 by-either true q r s f g h = f (and-left r s h) refl
 by-either false true r s f g h = g (and-right r s h) refl
 by-either false false r s f g h = h
@@ -194,8 +183,8 @@ abbrev Counted : ℕ → ℕ → List ℕ → ℕ → Type 0
 Counted a b trace t = fulfilled t a b trace ≡ true → counts-for (class-of t) a b trace ≡ true
 
 module _ (a b : ℕ) (trace : List ℕ) where
-  activated-either : (r : Bool) → ((occurs a trace or occurs b trace) and r) ≡ true → (occurs a trace or occurs b trace) ≡ true
-  activated-either r h = and-left (occurs a trace or occurs b trace) r h
+  activated-either : (r : Bool) → ((occurs a trace || occurs b trace) && r) ≡ true → (occurs a trace || occurs b trace) ≡ true
+  activated-either r h = and-left (occurs a trace || occurs b trace) r h
 
   -- the templates in the order of their numbers, from 0, which is none
   counted-each : Of-each (Counted a b trace) 0 25
@@ -228,10 +217,6 @@ module _ (a b : ℕ) (trace : List ℕ) where
       next activated-either _
       next tt
 
-and-false : (p : Bool) → (p and false) ≡ false
-and-false true = refl
-and-false false = refl
-
 -- nothing is fulfilled for a number above 24
 none-above : (t a b : ℕ) (trace : List ℕ) → 24 < t → fulfilled t a b trace ≡ false
 unfolding fulfilled activated
@@ -247,39 +232,21 @@ fulfilled-counts t a b trace = go (decLt 24 t)
     go (yes above) h = absurd (true≢false (sym h ∙ none-above t a b trace above))
     go (no n) h = of-one (Counted a b trace) 0 25 t (counted-each a b trace) (omega arith) (omega arith) h
 
--- ## Counts
-
-more-if : (p q : Bool) (x y : ℕ) → (p ≡ true → q ≡ true) → x ≤ y → (if p then suc x else x) ≤ (if q then suc y else y)
-more-if true q x y f h = rw (f refl) (omega arith)
-more-if false true x y f h = omega arith
-more-if false false x y f h = h
-
-pub how-many-cons {ℓ} : {A : Type ℓ} (p : A → Bool) (x : A) (xs : List A) → how-many p (x ∷ xs) ≡ (if p x then suc (how-many p xs) else how-many p xs)
-how-many-cons p x xs = go (p x)
-  where
-    go : (t : Bool) → length (if t then x ∷ those p xs else those p xs) ≡ (if t then suc (how-many p xs) else how-many p xs)
-    go true = refl
-    go false = refl
-
--- a weaker test is passed by no fewer
-pub how-many-weaker {ℓ} : {A : Type ℓ} (p q : A → Bool) → ((x : A) → p x ≡ true → q x ≡ true) → (xs : List A) → how-many p xs ≤ how-many q xs
-how-many-weaker p q f [] = omega arith
-how-many-weaker p q f (x ∷ xs) = rw (how-many-cons p x xs, how-many-cons q x xs) (more-if (p x) (q x) _ _ (f x) (how-many-weaker p q f xs))
-
 pub fulfilments-within-support : (traces : List (List ℕ)) (c : Constraint) → fulfilments traces c ≤ support traces c
 unfolding fulfilments support
-fulfilments-within-support traces c = how-many-weaker _ _ (fulfilled-counts (c .template) (c .a) (c .b)) traces
+fulfilments-within-support traces c = count-weaker _ _ (fulfilled-counts (c .template) (c .a) (c .b)) traces
 
 pub meets-more : (threshold r x y : ℕ) → x ≤ y → meets threshold r x ≡ true → meets threshold r y ≡ true
 meets-more threshold r x y h m = le-leb (threshold * r) (1000 * y) (omega (arith, leb-true (threshold * r) (1000 * x) m))
 
 -- a constraint to be listed is kept by pruning, so what is pruned would not have been listed
-pub listed-survives :
-    (threshold : ℕ) (traces : List (List ℕ)) (c : Constraint) →
-    meets threshold (trace-count traces) (fulfilments traces c) ≡ true → survives threshold traces c ≡ true
-listed-survives threshold traces c = meets-more threshold (trace-count traces) _ _ (fulfilments-within-support traces c)
+pub listed-survives : (q : Question) (c : Constraint) → is-listed q c ≡ true → survives q c ≡ true
+listed-survives q c h =
+    go (always (class-of (c .template))) (meets-more _ _ _ _ (fulfilments-within-support (q .traces) c) h)
+  where
+    go : (p : Bool) {r : Bool} → r ≡ true → p || r ≡ true
+    go true h = refl
+    go false h = h
 
-pub pruned-not-listed :
-    (threshold : ℕ) (traces : List (List ℕ)) (c : Constraint) →
-    survives threshold traces c ≡ false → meets threshold (trace-count traces) (fulfilments traces c) ≡ false
-pruned-not-listed threshold traces c = fails-too _ _ (listed-survives threshold traces c)
+pub pruned-not-listed : (q : Question) (c : Constraint) → survives q c ≡ false → is-listed q c ≡ false
+pruned-not-listed q c = fails-too _ _ (listed-survives q c)

@@ -1,29 +1,21 @@
--- A walk over the log's ends, trace by trace: how many of the kept traces pass a test. Support and replay are walks.
+-- A walk over the store's ends, trace by trace: how many of the kept traces pass a test. Support and replay are walks.
 -- Assumes nothing.
 use Prim.Native.Nat.{ℕ, suc, _+_, _-_, _≤_, _<_}
-use mathlib.Core.Path.{_≡_, refl, sym, ap, _∙_}
-use mathlib.Core.Bool.{Bool, true, false}
+use mathlib.Core.Path.{_≡_, refl, ap, _∙_}
+use mathlib.Core.Bool.{Bool, true, false, _&&_}
 use mathlib.Core.List.{List, [], _∷_}
 use native.Mathlib.Numerals.{add-one}
 use native.Mathlib.Omega.{arith}
 use lib.ListN.{length, take, drop, getD, drop-of-length-le}
-use lib.Seq.{slice, take-add, drop-at, drop-cons, getD-take, length-take-le}
-use Rattle.declare.specs.Logic.{_and_, if_then_else_}
+use lib.Seq.{drop-cons, getD-take, length-take-le}
+use Rattle.base.specs.Logic.{if_then_else_}
 use Rattle.declare.specs.declared.Verdict.{Verdict}
 use Rattle.declare.specs.declared.Verdict.the-variants.{Fulfilled, NotActivated, Violated}
 use Rattle.declare.specs.Meaning.{activated, holds, fulfilled, verdict}
 use Rattle.eventlog.specs.Store.{Memory, cut, last-from, last-end, rising, sound}
 use Rattle.eventlog.proofs.Laws.{sound-facts, Rises, rising-facts, rises-on}
-use Rattle.discovery.specs.Lists.{how-many}
-
--- a part that is handed on, from a start to an end, is the slice that the definitions speak of
-pub part-slice {ℓ} : {A : Type ℓ} (from to : ℕ) (l : List A) → from ≤ to → to ≤ length l → take (to - from) (drop from l) ≡ slice from to l
-part-slice from to l h k =
-    let e : to ≡ from + (to - from) = omega arith in
-    sym (
-    ap (λ (n : ℕ). slice from n l) e
-    ∙ ap (drop from) (take-add from (to - from) l)
-    ∙ drop-at (take from l) (take (to - from) (drop from l)) from (length-take-le from l (omega arith)))
+use Rattle.base.specs.Lists.{count}
+use Rattle.base.proofs.Lists.{part-slice}
 
 -- a trace is fulfilled where the verdict says so
 abbrev pub is-fulfilled : Verdict → Bool
@@ -35,18 +27,18 @@ pub verdict-fulfilled : (t a b : ℕ) (trace : List ℕ) → fulfilled t a b tra
 unfolding fulfilled verdict
 verdict-fulfilled t a b trace = go (activated t a b trace) (holds t a b trace)
   where
-    go : (p q : Bool) → (p and q) ≡ is-fulfilled (if p then (if q then Fulfilled else Violated) else NotActivated)
+    go : (p q : Bool) → (p && q) ≡ is-fulfilled (if p then (if q then Fulfilled else Violated) else NotActivated)
     go true true = refl
     go true false = refl
     go false q = refl
 
--- at the k-th of so many traces, which starts at `from`, with this count of those before it that pass
-pub record Walk (p : List ℕ → Bool) (events ends : List ℕ) (traces count from k : ℕ) : Type 0 where
+-- at the k-th of so many traces, which starts at `from`, with so many before it that pass
+pub record Walk (p : List ℕ → Bool) (events ends : List ℕ) (traces so-far from k : ℕ) : Type 0 where
   pub has-ends : traces ≤ length ends
   pub few-traces : traces ≤ 4095
-  pub few : count ≤ k
-  pub in-log : k ≤ traces
-  pub counted : count + how-many p (cut from (drop k (take traces ends)) events) ≡ how-many p (cut 0 (take traces ends) events)
+  pub few : so-far ≤ k
+  pub in-store : k ≤ traces
+  pub counted : so-far + count p (cut from (drop k (take traces ends)) events) ≡ count p (cut 0 (take traces ends) events)
   pub rises : rising from (drop k (take traces ends)) ≡ true
   pub within : last-from from (drop k (take traces ends)) ≤ length events
 
@@ -54,24 +46,24 @@ pub walk-start : (p : List ℕ → Bool) (m : Memory) → sound m ≡ true → W
 unfolding last-end
 walk-start p m h =
     let s = sound-facts m h in
-    record { has-ends = s .has-ends; few-traces = s .few-traces; few = omega arith; in-log = omega arith; counted = omega arith; rises = s .rises; within = s .fits }
+    record { has-ends = s .has-ends; few-traces = s .few-traces; few = omega arith; in-store = omega arith; counted = omega arith; rises = s .rises; within = s .fits }
 
 count-first :
     (p : List ℕ → Bool) (t : Bool) (trace : List ℕ) (traces : List (List ℕ)) → p trace ≡ t →
-    how-many p (trace ∷ traces) ≡ (if t then suc (how-many p traces) else how-many p traces)
+    count p (trace ∷ traces) ≡ (if t then suc (count p traces) else count p traces)
 count-first p true trace traces h = rw h
 count-first p false trace traces h = rw h
 
-count-on : (t : Bool) (count rest all : ℕ) → count + (if t then suc rest else rest) ≡ all → (if t then count + 1 else count) + rest ≡ all
-count-on true count rest all h = omega arith
-count-on false count rest all h = h
+count-on : (t : Bool) (so-far rest all : ℕ) → so-far + (if t then suc rest else rest) ≡ all → (if t then so-far + 1 else so-far) + rest ≡ all
+count-on true so-far rest all h = omega arith
+count-on false so-far rest all h = h
 
-few-on : (t : Bool) (count k : ℕ) → count ≤ k → (if t then count + 1 else count) ≤ k + 1
-few-on true count k h = omega arith
-few-on false count k h = omega arith
+few-on : (t : Bool) (so-far k : ℕ) → so-far ≤ k → (if t then so-far + 1 else so-far) ≤ k + 1
+few-on true so-far k h = omega arith
+few-on false so-far k h = omega arith
 
-module _ (p : List ℕ → Bool) (events ends : List ℕ) (traces count from k : ℕ) (w : Walk p events ends traces count from k) where
-  pub walk-done : traces ≤ k → count ≡ how-many p (cut 0 (take traces ends) events)
+module _ (p : List ℕ → Bool) (events ends : List ℕ) (traces so-far from k : ℕ) (w : Walk p events ends traces so-far from k) where
+  pub walk-done : traces ≤ k → so-far ≡ count p (cut 0 (take traces ends) events)
   walk-done past =
       let none : drop k (take traces ends) ≡ [] =
       drop-of-length-le (take traces ends) {i = k} (omega (arith, length-take-le traces ends (w .has-ends))) in
@@ -103,15 +95,15 @@ module _ (p : List ℕ → Bool) (events ends : List ℕ) (traces count from k :
     part = take (next - from) (drop from events)
 
     -- one trace on, counted where it passes
-    pub walk-next : (t : Bool) → p part ≡ t → Walk p events ends traces (if t then count + 1 else count) next (k + 1)
+    pub walk-next : (t : Bool) → p part ≡ t → Walk p events ends traces (if t then so-far + 1 else so-far) next (k + 1)
     walk-next t e =
-        let first = count-first p t _ (cut next (drop (suc k) (take traces ends)) events) (rw (part-slice from next events starts-before ends-within) at e) in
+        let first = count-first p t _ (cut next (drop (suc k) (take traces ends)) events) (rw (part-slice from next events starts-before) at e) in
         record {
           has-ends = w .has-ends;
           few-traces = w .few-traces;
-          few = few-on t count k (w .few);
-          in-log = omega arith;
-          counted = rw (add-one k) (count-on t count _ _ (rw (← first) (rw rest at (w .counted))));
+          few = few-on t so-far k (w .few);
+          in-store = omega arith;
+          counted = rw (add-one k) (count-on t so-far _ _ (rw (← first) (rw rest at (w .counted))));
           rises = rw (add-one k) (rises-next .rest);
           within = rw (add-one k) within-next;
         }

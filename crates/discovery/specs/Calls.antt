@@ -2,40 +2,45 @@
 -- Assumes nothing.
 use Prim.Native.Nat.{ℕ, _*_}
 use mathlib.Core.Path.{_≡_}
-use mathlib.Core.Bool.{not}
+use mathlib.Core.Bool.{Bool, not, _&&_}
 use mathlib.Core.List.{List, [], _∷_}
 use lib.Dec.{eqb, leb, ltb}
 use lib.ListN.{length}
 use lib.Seq.{sets}
-use Rattle.declare.specs.Logic.{_and_}
-use Rattle.eventlog.specs.Checks.{Check, _refuses_with_, Reply, gives, refused, reply, when-passed}
-use Rattle.eventlog.specs.Store.{Memory, kept}
+use Rattle.base.specs.Checks.{Check, _refuses_with_, Reply, gives, refused, reply, when-passed}
+use Rattle.eventlog.specs.Store.{Memory}
 use Rattle.eventlog.specs.Calls.{unsound}
 use Rattle.discovery.specs.declared.FindAnswer.{FindAnswer}
-use Rattle.discovery.specs.Constraints.{trace-count, listed, replayed, layout}
+use Rattle.discovery.specs.Constraints.{Question, asked, trace-count, listed, replayed, layout}
 
--- the checks of find, where so many constraints are to be listed and so many traces are kept
-abbrev pub checks-for : ℕ → ℕ → ℕ → List ℕ → List Check
-checks-for needed all threshold list =
-    (not (leb 1 threshold and leb threshold 1000) refuses 3 with 0) ∷
-    (eqb all 0 refuses 11 with 0) ∷
+-- a threshold of 1 to 1000
+abbrev pub in-range : ℕ → Bool
+in-range threshold = leb 1 threshold && leb threshold 1000
+
+abbrev pub threshold-check : ℕ → Check
+threshold-check threshold = not (in-range threshold) refuses 3 with 0
+
+-- the checks of find, where so many constraints are to be listed
+abbrev pub checks-for : ℕ → Question → List ℕ → List Check
+checks-for needed q list =
+    threshold-check (q .threshold) ∷
+    (eqb (trace-count q) 0 refuses 11 with 0) ∷
     (ltb (length list) (4 * needed) refuses 10 with needed) ∷
     []
 
--- the checks of find over these traces
-abbrev pub find-checks : ℕ → List (List ℕ) → ℕ → List ℕ → List Check
-find-checks n traces threshold list = checks-for (length (listed n threshold traces)) (trace-count traces) threshold list
+abbrev pub find-checks : Question → List ℕ → List Check
+find-checks q list = checks-for (length (listed q)) q list
 
 abbrev pub checks-of-find : Memory → ℕ → List ℕ → List Check
-checks-of-find m threshold list = unsound m ∷ find-checks (m .store .activities) (kept m) threshold list
+checks-of-find m threshold list = unsound m ∷ find-checks (asked m threshold) list
 
 -- constraints listed, constraints replayed, traces
-abbrev pub find-values : ℕ → List (List ℕ) → ℕ → List ℕ
-find-values n traces threshold = length (listed n threshold traces) ∷ replayed n threshold traces ∷ trace-count traces ∷ []
+abbrev pub find-values : Question → List ℕ
+find-values q = length (listed q) ∷ replayed q ∷ trace-count q ∷ []
 
 -- the lent slice with the list at its front
-abbrev pub with-list : ℕ → List (List ℕ) → ℕ → List ℕ → List ℕ
-with-list n traces threshold list = sets list 0 (layout traces (listed n threshold traces))
+abbrev pub with-list : Question → List ℕ → List ℕ
+with-list q list = sets list 0 (layout q (listed q))
 
 -- document 01's number and values for each case
 abbrev pub find-said : FindAnswer → Reply
@@ -44,5 +49,5 @@ find-said (FindAnswer.Refused refusal) = refused (refusal .number) (refusal .det
 
 -- `find` in memory m answers so and leaves this in the slice that had `list`
 pub record Finds (m : Memory) (threshold : ℕ) (list : List ℕ) (answer : FindAnswer) (list′ : List ℕ) : Type 0 where
-  pub says : find-said answer ≡ reply (checks-of-find m threshold list) (find-values (m .store .activities) (kept m) threshold)
-  pub leaves : list′ ≡ when-passed (checks-of-find m threshold list) (with-list (m .store .activities) (kept m) threshold list) list
+  pub says : find-said answer ≡ reply (checks-of-find m threshold list) (find-values (asked m threshold))
+  pub leaves : list′ ≡ when-passed (checks-of-find m threshold list) (with-list (asked m threshold) list) list

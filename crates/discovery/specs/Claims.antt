@@ -3,13 +3,12 @@
 use Prim.Native.Nat.{ℕ, _≤_, _<_}
 use mathlib.Core.Path.{_≡_}
 use mathlib.Core.Logic.{_⊎_, _↔_}
-use mathlib.Core.Bool.{Bool, true, false}
-use mathlib.Core.List.{List, [], _∷_, List·Mem, Pairwise}
+use mathlib.Core.Bool.{Bool, true}
+use mathlib.Core.List.{List, List·Mem, Pairwise}
 use lib.Dec.{eqb}
-use Rattle.declare.specs.Logic.{_and_}
 use Rattle.discovery.specs.declared.Constraint.{Constraint}
-use Rattle.discovery.specs.Lists.{how-many}
-use Rattle.discovery.specs.Constraints.{pairs}
+use Rattle.base.specs.Lists.{count, equal-lists}
+use Rattle.discovery.specs.Constraints.{pairs, Question}
 
 -- what the constraints over n activities are
 abbrev pub Over : ℕ → Constraint → Type 0
@@ -26,12 +25,12 @@ pub record Exactly (n : ℕ) (passes : Constraint → Bool) (cs : List Constrain
   pub members : (c : Constraint) → List·Mem c cs ↔ (Over n c × (passes c ≡ true))
   pub in-order : Pairwise Precedes cs
 
-abbrev pub same : List ℕ → List ℕ → Bool
-same [] [] = true
-same [] (y ∷ ys) = false
-same (x ∷ xs) [] = false
-same (x ∷ xs) (y ∷ ys) = eqb x y and same xs ys
-
 -- kept traces are alike, whatever their order, when each trace is there equally often
 abbrev pub Alike : List (List ℕ) → List (List ℕ) → Type 0
-Alike traces traces′ = (trace : List ℕ) → how-many (same trace) traces ≡ how-many (same trace) traces′
+Alike traces traces′ = (trace : List ℕ) → count (equal-lists eqb trace) traces ≡ count (equal-lists eqb trace) traces′
+
+-- two questions that differ in the order of their traces alone
+pub record AlikeQuestions (q q′ : Question) : Type 0 where
+  pub activities : q .activities ≡ q′ .activities
+  pub threshold : q .threshold ≡ q′ .threshold
+  pub traces : Alike (q .traces) (q′ .traces)

@@ -7,8 +7,11 @@ use mathlib.Core.List.{List, [], _∷_}
 use Rattle.declare.specs.declared.Verdict.{Verdict}
 use Rattle.declare.specs.declared.Verdict.the-variants.{Fulfilled, NotActivated, Violated}
 use Rattle.declare.specs.Meaning.{meanings, holds, activated, fulfilled, verdict}
-use Rattle.discovery.specs.Constraints.{constraints, meets, fulfilments, support, listed, replayed, layout}
+use Rattle.discovery.specs.Constraints.{constraints, Question, meets, fulfilments, support, listed, replayed, layout}
 use Rattle.discovery.specs.Calls.{find-values}
+
+abbrev pub question : ℕ → List (List ℕ) → ℕ → Question
+question activities traces threshold = record { activities = activities; traces = traces; threshold = threshold }
 
 -- A row of the table.
 pub data Row : Type 0 where
@@ -16,8 +19,8 @@ pub data Row : Type 0 where
   on : List ℕ → List (ℕ × Verdict) → Row
   -- how many traces there are, a count of them, and thresholds with whether the count meets them
   counted : ℕ → ℕ → List (ℕ × Bool) → Row
-  -- activities, traces and threshold, the list as it is laid out, and the numbers: listed, replayed, traces
-  finds : ℕ → List (List ℕ) → ℕ → List ℕ → List ℕ → Row
+  -- a question, the list as it is laid out, and the numbers: listed, replayed, traces
+  finds : Question → List ℕ → List ℕ → Row
 
 pub table : List Row
 table =
@@ -30,12 +33,12 @@ table =
     on (0 ∷ 1 ∷ 0 ∷ 1 ∷ []) ((21, Fulfilled) ∷ (22, Fulfilled) ∷ (5, Violated) ∷ []) ∷
     on (2 ∷ []) ((12, NotActivated) ∷ (13, NotActivated) ∷ []) ∷
     counted 3 2 ((666, true) ∷ (667, false) ∷ []) ∷
-    finds 1 ([] ∷ []) 1000 (4 ∷ 0 ∷ 0 ∷ 1 ∷ 5 ∷ 0 ∷ 0 ∷ 1 ∷ 6 ∷ 0 ∷ 0 ∷ 1 ∷ []) (3 ∷ 3 ∷ 1 ∷ []) ∷
+    finds (question 1 ([] ∷ []) 1000) (4 ∷ 0 ∷ 0 ∷ 1 ∷ 5 ∷ 0 ∷ 0 ∷ 1 ∷ 6 ∷ 0 ∷ 0 ∷ 1 ∷ []) (3 ∷ 3 ∷ 1 ∷ []) ∷
     []
 
 pub sample : List Row
 sample =
-    finds 2 ((0 ∷ []) ∷ []) 1000
+    finds (question 2 ((0 ∷ []) ∷ []) 1000)
     (
     1 ∷ 0 ∷ 0 ∷ 1 ∷
     4 ∷ 1 ∷ 1 ∷ 1 ∷
@@ -68,8 +71,7 @@ meetings all number (r ∷ rows) = (r .0, meets (r .0) all number) ∷ meetings 
 abbrev pub by-definition : Row → Row
 by-definition (on trace rows) = on trace (verdicts-on trace rows)
 by-definition (counted all number rows) = counted all number (meetings all number rows)
-by-definition (finds n traces threshold list numbers) =
-    finds n traces threshold (layout traces (listed n threshold traces)) (find-values n traces threshold)
+by-definition (finds q list numbers) = finds q (layout q (listed q)) (find-values q)
 
 abbrev pub all-by-definition : List Row → List Row
 all-by-definition [] = []
@@ -83,6 +85,6 @@ pub sample-holds : all-by-definition sample ≡ sample
 unfolding sample constraints fulfilments support listed replayed layout verdict fulfilled activated holds meanings
 sample-holds = refl
 
-pub two-runs : find-values 2 ((0 ∷ 1 ∷ []) ∷ (0 ∷ 0 ∷ 1 ∷ []) ∷ []) 1000 ≡ 18 ∷ 44 ∷ 2 ∷ []
+pub two-runs : find-values (question 2 ((0 ∷ 1 ∷ []) ∷ (0 ∷ 0 ∷ 1 ∷ []) ∷ []) 1000) ≡ 18 ∷ 44 ∷ 2 ∷ []
 unfolding constraints fulfilments support listed replayed layout fulfilled activated holds meanings
 two-runs = refl

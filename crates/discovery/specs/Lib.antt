@@ -2,5 +2,4 @@ pub mod Calls
 pub mod Claims
 pub mod Constraints
 pub mod Examples
-pub mod Lists
 pub mod Passes

@@ -1,4 +1,4 @@
-// Discovery (document 01: finding) over a log of traces: pruning by class, replay of what is kept, and the list.
+// Discovery (document 01: finding) over a store of traces: pruning by class, replay of what is kept, and the list.
 ghost use Prim.Native.Nat.{_*_, _≤_};
 ghost use mathlib.Core.Path.{_≡_};
 ghost use mathlib.Core.Bool.{true};
@@ -6,12 +6,12 @@ ghost use mathlib.Core.List.{[], _∷_};
 ghost use lib.ListN.{length, set};
 ghost use lib.Seq.{sets};
 ghost use Rattle.declare.specs.Meaning.{occurs as occurs-in};
-ghost use Rattle.declare.specs.States.{Leads, Tells};
-ghost use Rattle.eventlog.specs.Store.{memory, sound, kept};
-ghost use Rattle.discovery.specs.Constraints.{class-of, counts-for, support as support-of, survives, fulfilments, constraints, listed};
-ghost use Rattle.discovery.specs.Constraints.{meets as meets-test, pairs as pairs-test};
-ghost use Rattle.discovery.specs.Calls.{Finds};
-ghost use Rattle.discovery.specs.Passes.{Replays, Passes, Within, cell, row, grid, none-yet, room-for};
+ghost use Rattle.declare.specs.States.{NextTable, MarksTable};
+ghost use Rattle.eventlog.specs.Store.{lent, sound, kept};
+ghost use Rattle.discovery.specs.Constraints.{asked, class-of, counts-for, fulfilments, constraints, listed};
+ghost use Rattle.discovery.specs.Constraints.{always as always-test, support as support-of, survives as survives-test, meets as meets-test, pairs as pairs-test};
+ghost use Rattle.discovery.specs.Calls.{Finds, in-range as in-range-test};
+ghost use Rattle.discovery.specs.Passes.{Replays, Passes, AtMost, cell, row, grid, none-yet, fit-of};
 use declare::Verdict;
 use eventlog::Refusal;
 use eventlog::Store;
@@ -43,9 +43,9 @@ pub struct Tally {
     pub replayed: u32,
 }
 
-// Whether the slice has room for the list; if not, how many constraints are to be listed.
-pub enum Room {
-    Enough,
+// Whether the list fits the slice; if not, how many constraints are to be listed.
+pub enum Fit {
+    Fits,
     Short(usize),
 }
 
@@ -59,6 +59,15 @@ pub enum FindAnswer {
     Listed(Found),
     Refused(Refusal),
 }
+
+pub const MOST_THRESHOLD: u32 = 1000;
+
+// Document 01's numbers of the refusals that come from here.
+pub const THRESHOLD_OUT_OF_RANGE: u8 = 3;
+
+pub const LIST_TOO_SHORT: u8 = 10;
+
+pub const NO_TRACE: u8 = 11;
 
 // The template's number settles the class; a number that is no template's is in the last one.
 fn class_of(template: u8) -> Class
@@ -100,8 +109,8 @@ fn counts_for(class: Class, a: u8, b: u8, trace: &[u8]) -> bool
 
 // How many kept traces count for the constraint's class.
 fn support(store: Store, events: &[u8], ends: &[u32], c: Constraint) -> u32
-    requires { ⌜ sound (memory store (now events) (now ends)) ≡ true ⌝ }
-    ensures { λ r. ⌜ r ≡ support-of (kept (memory store (now (events .entry)) (now (ends .entry)))) c ⌝ }
+    requires { ⌜ sound (lent store events ends) ≡ true ⌝ }
+    ensures { λ r. ⌜ r ≡ support-of (kept (lent store (events .entry) (ends .entry))) c ⌝ }
 {
     let class = class_of(c.template);
     let kept = store.traces as usize;
@@ -124,6 +133,29 @@ fn meets(threshold: u32, all: u32, number: u32) -> bool
     ensures { λ r. ⌜ r ≡ meets-test threshold all number ⌝ }
 {
     (threshold as u64) * (all as u64) <= 1000 * (number as u64)
+}
+
+// Whether a class is kept by pruning whatever its support.
+fn always(class: Class) -> bool
+    ensures { λ r. ⌜ r ≡ always-test class ⌝ }
+{
+    match class {
+        Class::All => true,
+        Class::WithA => false,
+        Class::Either => false,
+        Class::Both => false,
+    }
+}
+
+// Whether pruning keeps a constraint. Nothing is counted for a class that it keeps always.
+fn survives(store: Store, events: &[u8], ends: &[u32], threshold: u32, c: Constraint) -> bool
+    requires { ⌜ sound (lent store events ends) ≡ true ⌝ }
+    ensures { λ r. ⌜ r ≡ survives-test (asked (lent store (events .entry) (ends .entry)) threshold) c ⌝ }
+{
+    if always(class_of(c.template)) {
+        return true;
+    }
+    meets(threshold, store.traces, support(store, events, ends, c))
 }
 
 // Whether there is a constraint of the template on a and b.
@@ -171,11 +203,11 @@ fn fulfilled_by(
     threshold: u32,
     c: Constraint,
 ) -> u32
-    requires { ⌜ Leads (now next) ⌝ }
-    requires { ⌜ Tells (now marks) ⌝ }
-    requires { ⌜ sound (memory store (now events) (now ends)) ≡ true ⌝ }
-    requires { ⌜ survives threshold (kept (memory store (now events) (now ends))) c ≡ true ⌝ }
-    ensures { λ r. ⌜ r ≡ fulfilments (kept (memory store (now (events .entry)) (now (ends .entry)))) c ⌝ }
+    requires { ⌜ NextTable (now next) ⌝ }
+    requires { ⌜ MarksTable (now marks) ⌝ }
+    requires { ⌜ sound (lent store events ends) ≡ true ⌝ }
+    requires { ⌜ survives-test (asked (lent store events ends) threshold) c ≡ true ⌝ }
+    ensures { λ r. ⌜ r ≡ fulfilments (kept (lent store (events .entry) (ends .entry))) c ⌝ }
 {
     let traces = store.traces as usize;
     let mut fulfilled: u32 = 0;
@@ -195,8 +227,8 @@ fn fulfilled_by(
     fulfilled
 }
 
-// Replays a constraint over the log. Only what pruning keeps may be replayed: the second clause. The tables are made once for all its
-// traces.
+// Replays a constraint over the store. Only what pruning keeps may be replayed: the second clause. The tables are made once for all
+// its traces.
 fn replay(
     store: Store,
     events: &[u8],
@@ -205,10 +237,10 @@ fn replay(
     c: Constraint,
     replayed: u32,
 ) -> Replayed
-    requires { ⌜ sound (memory store (now events) (now ends)) ≡ true ⌝ }
-    requires { ⌜ survives threshold (kept (memory store (now events) (now ends))) c ≡ true ⌝ }
+    requires { ⌜ sound (lent store events ends) ≡ true ⌝ }
+    requires { ⌜ survives-test (asked (lent store events ends) threshold) c ≡ true ⌝ }
     requires { ⌜ replayed ≤ 65535 ⌝ }
-    ensures { λ r. ⌜ Replays (kept (memory store (now (events .entry)) (now (ends .entry)))) c replayed r ⌝ }
+    ensures { λ r. ⌜ Replays (asked (lent store (events .entry) (ends .entry)) threshold) c replayed r ⌝ }
 {
     let next = declare::next_states();
     let marks = declare::state_marks();
@@ -230,19 +262,17 @@ fn consider(
     tally: Tally,
     c: Constraint,
 ) -> Tally
-    requires { ⌜ sound (memory store (now events) (now ends)) ≡ true ⌝ }
-    requires { ⌜ Within 40000 tally ⌝ }
-    ensures { λ r. ⌜ Passes threshold (kept (memory store (now (events .entry)) (now (ends .entry)))) (c ∷ []) tally (now (list .entry)) r (now (list .exit)) ⌝ }
+    requires { ⌜ sound (lent store events ends) ≡ true ⌝ }
+    requires { ⌜ AtMost 40000 tally ⌝ }
+    ensures { λ r. ⌜ Passes (asked (lent store (events .entry) (ends .entry)) threshold) (c ∷ []) tally (now (list .entry)) r (now (list .exit)) ⌝ }
 {
-    let all = store.traces;
-    let count = support(store, events, ends, c);
-    if !meets(threshold, all, count) {
+    if !survives(store, events, ends, threshold, c) {
         return tally;
     }
     let outcome = replay(store, events, ends, threshold, c, tally.replayed);
     let fulfilled = outcome.fulfilled;
     let replayed = outcome.replayed;
-    if !meets(threshold, all, fulfilled) {
+    if !meets(threshold, store.traces, fulfilled) {
         return Tally {
             listed: tally.listed,
             replayed,
@@ -267,9 +297,9 @@ fn pass_cell(
     a: u8,
     b: u8,
 ) -> Tally
-    requires { ⌜ sound (memory store (now events) (now ends)) ≡ true ⌝ }
-    requires { ⌜ Within 40000 tally ⌝ }
-    ensures { λ r. ⌜ Passes threshold (kept (memory store (now (events .entry)) (now (ends .entry)))) (cell template a b) tally (now (list .entry)) r (now (list .exit)) ⌝ }
+    requires { ⌜ sound (lent store events ends) ≡ true ⌝ }
+    requires { ⌜ AtMost 40000 tally ⌝ }
+    ensures { λ r. ⌜ Passes (asked (lent store (events .entry) (ends .entry)) threshold) (cell template a b) tally (now (list .entry)) r (now (list .exit)) ⌝ }
 {
     if pairs(template, a, b) {
         consider(
@@ -297,9 +327,9 @@ fn pass_row(
     template: u8,
     a: u8,
 ) -> Tally
-    requires { ⌜ sound (memory store (now events) (now ends)) ≡ true ⌝ }
-    requires { ⌜ Within 39968 tally ⌝ }
-    ensures { λ r. ⌜ Passes threshold (kept (memory store (now (events .entry)) (now (ends .entry)))) (row (store .activities) template a) tally (now (list .entry)) r (now (list .exit)) ⌝ }
+    requires { ⌜ sound (lent store events ends) ≡ true ⌝ }
+    requires { ⌜ AtMost 39968 tally ⌝ }
+    ensures { λ r. ⌜ Passes (asked (lent store (events .entry) (ends .entry)) threshold) (row (store .activities) template a) tally (now (list .entry)) r (now (list .exit)) ⌝ }
 {
     let n = store.activities as u8;
     let mut found = tally;
@@ -321,9 +351,9 @@ fn pass_grid(
     tally: Tally,
     template: u8,
 ) -> Tally
-    requires { ⌜ sound (memory store (now events) (now ends)) ≡ true ⌝ }
-    requires { ⌜ Within 38944 tally ⌝ }
-    ensures { λ r. ⌜ Passes threshold (kept (memory store (now (events .entry)) (now (ends .entry)))) (grid (store .activities) template) tally (now (list .entry)) r (now (list .exit)) ⌝ }
+    requires { ⌜ sound (lent store events ends) ≡ true ⌝ }
+    requires { ⌜ AtMost 38944 tally ⌝ }
+    ensures { λ r. ⌜ Passes (asked (lent store (events .entry) (ends .entry)) threshold) (grid (store .activities) template) tally (now (list .entry)) r (now (list .exit)) ⌝ }
 {
     let n = store.activities as u8;
     let mut found = tally;
@@ -338,8 +368,8 @@ fn pass_grid(
 // Passes over all constraints, by template, then a, then b: counts those listed and replayed, and writes the list as far as the
 // slice goes.
 fn pass_all(store: Store, events: &[u8], ends: &[u32], threshold: u32, list: &mut [u16]) -> Tally
-    requires { ⌜ sound (memory store (now events) (now ends)) ≡ true ⌝ }
-    ensures { λ r. ⌜ Passes threshold (kept (memory store (now (events .entry)) (now (ends .entry)))) (constraints (store .activities)) none-yet (now (list .entry)) r (now (list .exit)) ⌝ }
+    requires { ⌜ sound (lent store events ends) ≡ true ⌝ }
+    ensures { λ r. ⌜ Passes (asked (lent store (events .entry) (ends .entry)) threshold) (constraints (store .activities)) none-yet (now (list .entry)) r (now (list .exit)) ⌝ }
 {
     let mut found = Tally {
         listed: 0,
@@ -355,21 +385,34 @@ fn pass_all(store: Store, events: &[u8], ends: &[u32], threshold: u32, list: &mu
 
 // Looks whether the list fits, and leaves the slice as it was. Where there is room for all constraints, 14·N·N − 6·N, nothing is
 // replayed for it.
-fn look(store: Store, events: &[u8], ends: &[u32], threshold: u32, list: &mut [u16]) -> Room
-    requires { ⌜ sound (memory store (now events) (now ends)) ≡ true ⌝ }
-    ensures { λ r. ⌜ r ≡ room-for (length (listed (store .activities) threshold (kept (memory store (now (events .entry)) (now (ends .entry)))))) (now (list .entry)) ⌝ }
+fn look(store: Store, events: &[u8], ends: &[u32], threshold: u32, list: &mut [u16]) -> Fit
+    requires { ⌜ sound (lent store events ends) ≡ true ⌝ }
+    ensures { λ r. ⌜ r ≡ fit-of (length (listed (asked (lent store (events .entry) (ends .entry)) threshold))) (now (list .entry)) ⌝ }
     ensures { λ r. ⌜ now (list .exit) ≡ now (list .entry) ⌝ }
 {
     let n = store.activities as usize;
     if 14 * n * n <= list.len() / 4 + 6 * n {
-        return Room::Enough;
+        return Fit::Fits;
     }
     let needed = pass_all(store, events, ends, threshold, &mut list[0..0]);
     let listed = needed.listed as usize;
     if list.len() < 4 * listed {
-        return Room::Short(listed);
+        return Fit::Short(listed);
     }
-    Room::Enough
+    Fit::Fits
+}
+
+// Whether a threshold is one: 1 to 1000.
+pub fn in_range(threshold: u32) -> bool
+    ensures { λ r. ⌜ r ≡ in-range-test threshold ⌝ }
+{
+    1 <= threshold && threshold <= MOST_THRESHOLD
+}
+
+fn refused(number: u8, detail: usize) -> FindAnswer
+    ensures { λ r. ⌜ r ≡ FindAnswer.Refused (record { number = number; detail = detail }) ⌝ }
+{
+    FindAnswer::Refused(Refusal { number, detail })
 }
 
 // Document 01's find, over any record, buffers, threshold and slice. What is needed is known before the first number is written.
@@ -380,42 +423,24 @@ pub fn find(
     threshold: u32,
     list: &mut [u16],
 ) -> FindAnswer
-    ensures { λ r. ⌜ Finds (memory store (now (events .entry)) (now (ends .entry))) threshold (now (list .entry)) r (now (list .exit)) ⌝ }
+    ensures { λ r. ⌜ Finds (lent store (events .entry) (ends .entry)) threshold (now (list .entry)) r (now (list .exit)) ⌝ }
 {
     if !eventlog::is_sound(store, events, ends) {
-        return FindAnswer::Refused(Refusal {
-            number: 1,
-            detail: 0,
-        });
+        return refused(eventlog::NOT_SOUND, 0);
     }
-    if threshold < 1 {
-        return FindAnswer::Refused(Refusal {
-            number: 3,
-            detail: 0,
-        });
-    }
-    if 1000 < threshold {
-        return FindAnswer::Refused(Refusal {
-            number: 3,
-            detail: 0,
-        });
+    if !in_range(threshold) {
+        return refused(THRESHOLD_OUT_OF_RANGE, 0);
     }
     let traces = store.traces;
     if traces == 0 {
-        return FindAnswer::Refused(Refusal {
-            number: 11,
-            detail: 0,
-        });
+        return refused(NO_TRACE, 0);
     }
-    let room = look(store, events, ends, threshold, list);
-    match room {
-        Room::Short(needed) => {
-            return FindAnswer::Refused(Refusal {
-                number: 10,
-                detail: needed,
-            });
+    let fit = look(store, events, ends, threshold, list);
+    match fit {
+        Fit::Short(needed) => {
+            return refused(LIST_TOO_SHORT, needed);
         }
-        Room::Enough => {}
+        Fit::Fits => {}
     }
     let found = pass_all(store, events, ends, threshold, list);
     FindAnswer::Listed(Found {

@@ -1,22 +1,19 @@
--- Laws of the log that hold for its definitions alone: what a sound memory keeps, and what one trace more changes.
+-- Laws of the store that hold for its definitions alone: what a sound memory keeps, and what one trace more changes.
 -- Assumes nothing.
 use Prim.Native.Nat.{ℕ, suc, _+_, _*_, _≤_, _<_}
 use native.Mathlib.Numerals.{add-one}
 use native.Mathlib.Omega.{arith}
 use mathlib.Core.Path.{_≡_, refl, sym, ap, _∙_}
-use mathlib.Core.Bool.{Bool, true, false}
+use mathlib.Core.Bool.{true, _&&_}
 use mathlib.Core.List.{List, [], _∷_, _++_}
 use borrow.Author.Tests.{leb-true, le-leb}
 use lib.Dec.{leb, ltb}
 use lib.ListN.{length, take, drop, length-append, length-set}
 use lib.Seq.{slice, length-slice, length-sets, sets-eq, length-take-le, take-take, take-at, drop-at, take-suc-set}
-use Rattle.declare.specs.Logic.{_and_}
-use Rattle.declare.proofs.Bools.{and-left, and-right, and-both}
-use Rattle.eventlog.specs.Store.{most-activities, most-traces, longest-trace, Memory, memory, cut, kept, total}
-use Rattle.eventlog.specs.Store.{last-from, last-end, rising, all-below, sound}
-use Rattle.eventlog.specs.Calls.{room, with-trace}
-
--- ## Tests joined
+use Rattle.base.proofs.Bools.{and-left, and-right, and-both}
+use Rattle.eventlog.specs.Store.{most-activities, most-traces, longest-trace, declarable, Memory, memory, cut, kept, total}
+use Rattle.eventlog.specs.Store.{last-from, last-end, rising, all-below, sound, room, after-traces}
+use Rattle.eventlog.specs.Calls.{with-trace}
 
 -- ## A sound memory, by its facts
 
@@ -32,34 +29,46 @@ pub record Sound (m : Memory) : Type 0 where
   pub fits : last-end m ≤ length (m .events)
   pub declared : all-below (m .store .activities) (take (last-end m) (m .events)) ≡ true
 
+pub declared-range : (n : ℕ) → declarable n ≡ true → (1 ≤ n) × (n ≤ most-activities)
+declared-range n h =
+    (leb-true _ _ (and-left (leb 1 n) (leb n most-activities) h), leb-true _ _ (and-right (leb 1 n) (leb n most-activities) h))
+
 pub sound-facts : (m : Memory) → sound m ≡ true → Sound m
 unfolding sound
 sound-facts m h =
-    let n = m .store .activities in
-    let count = m .store .traces in
-    let h1 = and-right (leb 1 n) _ h in
-    let h2 = and-right (leb n most-activities) _ h1 in
-    let h3 = and-right (leb count most-traces) _ h2 in
-    let h4 = and-right (leb count (length (m .ends))) _ h3 in
-    let h5 = and-right (rising 0 (kept-ends m)) _ h4 in
+    let range = declarable (m .store .activities) in
+    let few = leb (m .store .traces) most-traces in
+    let has-ends = leb (m .store .traces) (length (m .ends)) in
+    let rises = rising 0 (kept-ends m) in
+    let fits = leb (last-end m) (length (m .events)) in
+    let declared = all-below (m .store .activities) (take (last-end m) (m .events)) in
+    let h5 = and-left (range && few && has-ends && rises && fits) declared h in
+    let h4 = and-left (range && few && has-ends && rises) fits h5 in
+    let h3 = and-left (range && few && has-ends) rises h4 in
+    let h2 = and-left (range && few) has-ends h3 in
+    let bounds = declared-range (m .store .activities) (and-left range few h2) in
     record {
-      some-activity = leb-true _ _ (and-left (leb 1 n) _ h);
-      few-activities = leb-true _ _ (and-left (leb n most-activities) _ h1);
-      few-traces = leb-true _ _ (and-left (leb count most-traces) _ h2);
-      has-ends = leb-true _ _ (and-left (leb count (length (m .ends))) _ h3);
-      rises = and-left (rising 0 (kept-ends m)) _ h4;
-      fits = leb-true _ _ (and-left (leb (last-end m) (length (m .events))) _ h5);
-      declared = and-right (leb (last-end m) (length (m .events))) _ h5;
+      some-activity = bounds .0;
+      few-activities = bounds .1;
+      few-traces = leb-true _ _ (and-right range few h2);
+      has-ends = leb-true _ _ (and-right (range && few) has-ends h3);
+      rises = and-right (range && few && has-ends) rises h4;
+      fits = leb-true _ _ (and-right (range && few && has-ends && rises) fits h5);
+      declared = and-right (range && few && has-ends && rises && fits) declared h;
     }
 
 pub facts-sound : (m : Memory) → Sound m → sound m ≡ true
 unfolding sound
 facts-sound m s =
-    and-both _ _ (le-leb _ _ (s .some-activity))
-    (and-both _ _ (le-leb _ _ (s .few-activities))
-    (and-both _ _ (le-leb _ _ (s .few-traces))
-    (and-both _ _ (le-leb _ _ (s .has-ends))
-    (and-both _ _ (s .rises) (and-both _ _ (le-leb _ _ (s .fits)) (s .declared))))))
+    simp (
+      le-leb _ _ (s .some-activity),
+      le-leb _ _ (s .few-activities),
+      le-leb _ _ (s .few-traces),
+      le-leb _ _ (s .has-ends),
+      s .rises,
+      le-leb _ _ (s .fits),
+      s .declared,
+    )
 
 -- ## Rising ends
 
@@ -118,6 +127,10 @@ cut-total from (end ∷ ends) events h fits =
     let on = rises-on end ends (r .rest) in
     omega (arith, cut-total end ends events (r .rest) fits, length-slice from end events (omega arith))
 
+pub total-append : (xs ys : List (List ℕ)) → total (xs ++ ys) ≡ total xs + total ys
+total-append [] ys = omega arith
+total-append (x ∷ xs) ys = omega (arith, total-append xs ys)
+
 pub cut-snoc :
     (from : ℕ) (ends : List ℕ) (end : ℕ) (events : List ℕ) →
     cut from (ends ++ (end ∷ [])) events ≡ cut from ends events ++ (slice (last-from from ends) end events ∷ [])
@@ -172,9 +185,6 @@ pub record Addable (m : Memory) (trace : List ℕ) : Type 0 where
   pub has-end : m .store .traces < length (m .ends)
   pub fits : last-end m + length trace ≤ length (m .events)
 
-pub room-added : (m : Memory) (trace : List ℕ) → room (with-trace m trace) ≡ room m
-room-added m trace = simp (length-sets, length-set)
-
 module _ (m : Memory) (trace : List ℕ) (h : sound m ≡ true) (a : Addable m trace) where
   s : Sound m
   s = sound-facts m h
@@ -185,6 +195,11 @@ module _ (m : Memory) (trace : List ℕ) (h : sound m ≡ true) (a : Addable m t
   pub last-end-added : last-end (with-trace m trace) ≡ last-end m + length trace
   unfolding last-end
   last-end-added = rw kept-ends-added (last-snoc 0 (kept-ends m) _)
+
+  pub room-added : room (with-trace m trace) ≡ after-traces (room m) (trace ∷ [])
+  room-added =
+      let more : last-end m + length trace ≡ last-end m + total (trace ∷ []) = omega arith in
+      rw (last-end-added, length-sets, length-set, more)
 
   length-before : length (take (last-end m) (m .events)) ≡ last-end m
   length-before = length-take-le (last-end m) (m .events) (s .fits)
@@ -226,7 +241,7 @@ module _ (m : Memory) (trace : List ℕ) (h : sound m ≡ true) (a : Addable m t
         drop-at (take (last-end m) (m .events)) trace (last-end m) length-before,
       ))
 
--- ## A fresh log
+-- ## A fresh store
 
 module _ (n : ℕ) (events ends : List ℕ) where
   abbrev pub fresh : Memory
@@ -236,13 +251,14 @@ module _ (n : ℕ) (events ends : List ℕ) where
   unfolding kept
   fresh-kept = refl
 
-  pub fresh-sound : 1 ≤ n → n ≤ most-activities → sound fresh ≡ true
+  pub fresh-sound : declarable n ≡ true → sound fresh ≡ true
   unfolding last-end
-  fresh-sound low high =
+  fresh-sound declared =
+      let range = declared-range n declared in
       facts-sound fresh
       (record {
-        some-activity = low;
-        few-activities = high;
+        some-activity = range .0;
+        few-activities = range .1;
         few-traces = omega arith;
         has-ends = omega arith;
         rises = refl;

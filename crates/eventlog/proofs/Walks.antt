@@ -4,20 +4,15 @@ use Prim.Native.Nat.{ℕ, zero, suc, _+_, _≤_, _<_}
 use native.Mathlib.Numerals.{add-one}
 use native.Mathlib.Omega.{arith}
 use mathlib.Core.Path.{_≡_, refl, sym, ap, _∙_}
-use mathlib.Core.Bool.{Bool, true, false}
+use mathlib.Core.Bool.{Bool, true, false, _&&_, and-false}
 use mathlib.Core.List.{List, [], _∷_}
 use borrow.Author.Tests.{le-leb, lt-leb, lt-ltb, le-ltb, eqb-true, eqb-false}
 use lib.Dec.{leb, ltb, eqb}
 use lib.ListN.{length, getD, take, drop}
 use lib.Seq.{take-suc, drop-cons, take-all}
-use Rattle.declare.specs.Logic.{_and_}
 use Rattle.eventlog.specs.Store.{longest-trace, last-from, rising, all-below}
-use Rattle.declare.proofs.Bools.{and-both}
+use Rattle.base.proofs.Bools.{and-both}
 use Rattle.eventlog.proofs.Laws.{all-below-append}
-
-and-false : (p : Bool) → p and false ≡ false
-and-false true = refl
-and-false false = refl
 
 pub last-none : (ends : List ℕ) → length ends ≡ 0 → last-from 0 ends ≡ 0
 last-none [] h = refl
@@ -34,7 +29,7 @@ last-at last (end ∷ next ∷ ends) (suc n) h = last-at end (next ∷ ends) n (
 module _ (last : ℕ) (ends : List ℕ) (i : ℕ) (within : i < length ends) where
   rising-step :
       rising last (drop i ends) ≡
-      leb last (getD ends i 0) and leb (getD ends i 0) (last + longest-trace) and rising (getD ends i 0) (drop (i + 1) ends)
+      leb last (getD ends i 0) && (leb (getD ends i 0) (last + longest-trace) && rising (getD ends i 0) (drop (i + 1) ends))
   rising-step = rw (add-one, drop-cons ends i 0)
 
   pub rising-stops-low : getD ends i 0 < last → rising last (drop i ends) ≡ false

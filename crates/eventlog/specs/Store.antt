@@ -1,12 +1,13 @@
--- The log of traces (document 01: the store of runs): the traces it keeps, and when it is sound.
+-- The store of traces (document 01: of runs): the traces that it keeps, when it is sound, and the room that is left in it.
 -- Assumes nothing.
 use Prim.Native.Nat.{ℕ, _+_}
-use mathlib.Core.Bool.{Bool, true}
+use mathlib.Core.Bool.{Bool, true, _&&_, _||_}
 use mathlib.Core.List.{List, [], _∷_}
-use lib.Dec.{leb, ltb}
+use lib.Dec.{eqb, leb, ltb}
 use lib.ListN.{length, take}
 use lib.Seq.{slice}
-use Rattle.declare.specs.Logic.{_and_}
+use denote.Ref.{RefT, now}
+use Rattle.eventlog.specs.declared.Room.{Room}
 use Rattle.eventlog.specs.declared.Store.{Store}
 
 abbrev pub most-activities : ℕ
@@ -18,7 +19,7 @@ most-traces = 4095
 abbrev pub longest-trace : ℕ
 longest-trace = 4096
 
--- The record beside the two lent buffers.
+-- The record beside the two lent buffers: the events (document 01: kept steps), trace after trace, and the ends of the traces.
 pub record Memory : Type 0 where
   pub store : Store
   pub events : List ℕ
@@ -26,6 +27,10 @@ pub record Memory : Type 0 where
 
 abbrev pub memory : Store → List ℕ → List ℕ → Memory
 memory store events ends = record { store = store; events = events; ends = ends }
+
+-- the memory of a record and of what stands behind two references: contracts speak of it so
+abbrev pub lent : Store → RefT (List ℕ) → RefT (List ℕ) → Memory
+lent store events ends = memory store (now events) (now ends)
 
 -- the traces that the ends cut off, the first of them from `from`
 abbrev pub cut : ℕ → List ℕ → List ℕ → List (List ℕ)
@@ -55,19 +60,54 @@ last-end m = last-kept (m .store .traces) (m .ends)
 -- no end is below the one before it or more than 4096 above it
 abbrev pub rising : ℕ → List ℕ → Bool
 rising last [] = true
-rising last (end ∷ ends) = leb last end and leb end (last + longest-trace) and rising end ends
+rising last (end ∷ ends) = leb last end && (leb end (last + longest-trace) && rising end ends)
 
 abbrev pub all-below : ℕ → List ℕ → Bool
 all-below n [] = true
-all-below n (x ∷ xs) = ltb x n and all-below n xs
+all-below n (x ∷ xs) = ltb x n && all-below n xs
+
+-- N is 1 to 32
+abbrev pub declarable : ℕ → Bool
+declarable n = leb 1 n && leb n most-activities
 
 -- N is 1 to 32; the run count is at most 4095 and the ends slice's length; no end is below the one before it (0 before the first) or
 -- more than 4096 above it; the last end is at most the step buffer's length; every kept step is below N
 unfoldable pub sound : Memory → Bool
 unfolding last-end
 sound m =
-    leb 1 (m .store .activities) and leb (m .store .activities) most-activities
-    and leb (m .store .traces) most-traces and leb (m .store .traces) (length (m .ends))
-    and rising 0 (take (m .store .traces) (m .ends))
-    and leb (last-end m) (length (m .events))
-    and all-below (m .store .activities) (take (last-end m) (m .events))
+    declarable (m .store .activities)
+    && leb (m .store .traces) most-traces && leb (m .store .traces) (length (m .ends))
+    && rising 0 (take (m .store .traces) (m .ends))
+    && leb (last-end m) (length (m .events))
+    && all-below (m .store .activities) (take (last-end m) (m .events))
+
+-- ## Room: the activities declared, the traces kept and their last end, and the lengths of the two buffers
+
+abbrev pub room : Memory → Room
+room m =
+    record {
+      activities = m .store .activities;
+      traces = m .store .traces;
+      last = last-end m;
+      events = length (m .events);
+      ends = length (m .ends);
+    }
+
+-- the room that is left after these traces
+abbrev pub after-traces : Room → List (List ℕ) → Room
+after-traces r traces =
+    record {
+      activities = r .activities;
+      traces = r .traces + length traces;
+      last = r .last + total traces;
+      events = r .events;
+      ends = r .ends;
+    }
+
+-- run count already 4095 or the ends slice's length
+abbrev pub full : ℕ → ℕ → Bool
+full traces ends = eqb traces most-traces || eqb traces ends
+
+-- steps don't fit, the last end plus the new steps being above the step buffer's length
+abbrev pub lacks : Room → ℕ → Bool
+lacks r more = ltb (r .events) (r .last + more)

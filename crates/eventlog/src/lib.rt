@@ -1,15 +1,26 @@
+// The store of traces (document 01: of runs): its record, whether it is sound, its room, open and add.
 ghost use mathlib.Core.Path.{_≡_};
 ghost use mathlib.Core.Bool.{true};
 ghost use Prim.Native.Nat.{_+_, _<_, _≤_};
 ghost use lib.ListN.{length, getD, take};
 ghost use lib.Seq.{sets};
 ghost use Rattle.eventlog.specs.Calls.{Adds, Answers, Opens, with-trace};
-ghost use Rattle.eventlog.specs.Store.{memory, last-from, last-kept, rising, all-below, sound};
+ghost use Rattle.eventlog.specs.Store.{lent, last-from, last-kept, rising, all-below, sound, room, declarable as declarable-test, full as full-test};
 
-// The log's record (document 01: the store): how many activities are declared, and how many traces are kept.
+// The record: how many activities (document 01: steps, numbers below N) are declared, and how many traces are kept.
 pub struct Store {
     pub activities: u32,
     pub traces: u32,
+}
+
+// What is left in a store: the activities declared, the traces kept and their last end, and the lengths of the two lent buffers. The events
+// (01: kept steps) lie in the first, the ends of the traces in the second.
+pub struct Room {
+    pub activities: u32,
+    pub traces: u32,
+    pub last: u32,
+    pub events: usize,
+    pub ends: usize,
 }
 
 // A refusal's number in document 01, and its detail.
@@ -33,25 +44,38 @@ pub struct AddResult {
     pub answer: AddAnswer,
 }
 
-const MOST_ACTIVITIES: u32 = 32;
+pub const MOST_ACTIVITIES: u32 = 32;
 
-const MOST_TRACES: u32 = 4095;
+pub const MOST_TRACES: u32 = 4095;
 
-const LONGEST_TRACE: u32 = 4096;
+pub const LONGEST_TRACE: u32 = 4096;
+
+// Document 01's numbers of the refusals that come from here.
+pub const NOT_SOUND: u8 = 1;
+
+pub const ACTIVITIES_OUT_OF_RANGE: u8 = 2;
+
+pub const UNDECLARED: u8 = 6;
+
+pub const TOO_LONG: u8 = 7;
+
+pub const FULL: u8 = 8;
+
+pub const NO_SPACE: u8 = 9;
+
+fn declarable(n: u32) -> bool
+    ensures { λ r. ⌜ r ≡ declarable-test n ⌝ }
+{
+    1 <= n && n <= MOST_ACTIVITIES
+}
 
 // The empty record for n declared activities.
 pub fn open(n: u32) -> OpenAnswer
     ensures { λ r. ⌜ Opens n r ⌝ }
 {
-    if n < 1 {
+    if !declarable(n) {
         return OpenAnswer::Refused(Refusal {
-            number: 2,
-            detail: 0,
-        });
-    }
-    if MOST_ACTIVITIES < n {
-        return OpenAnswer::Refused(Refusal {
-            number: 2,
+            number: ACTIVITIES_OUT_OF_RANGE,
             detail: 0,
         });
     }
@@ -91,10 +115,7 @@ fn ends_rise(ends: &[u32]) -> bool
     let mut i = 0;
     while i < ends.len() {
         let end = ends[i];
-        if end < last {
-            return false;
-        }
-        if LONGEST_TRACE < end - last {
+        if end < last || LONGEST_TRACE < end - last {
             return false;
         }
         last = end;
@@ -121,21 +142,15 @@ fn declared_front(n: u32, events: &[u8]) -> usize
 
 // Whether the record and the buffers are sound: one pass over the kept ends, and one over the kept events.
 pub fn is_sound(store: Store, events: &[u8], ends: &[u32]) -> bool
-    ensures { λ r. ⌜ r ≡ sound (memory store (now (events .entry)) (now (ends .entry))) ⌝ }
+    ensures { λ r. ⌜ r ≡ sound (lent store (events .entry) (ends .entry)) ⌝ }
 {
     let activities = store.activities;
     let traces = store.traces;
-    if activities < 1 {
-        return false;
-    }
-    if MOST_ACTIVITIES < activities {
-        return false;
-    }
-    if MOST_TRACES < traces {
+    if !declarable(activities) {
         return false;
     }
     let count = traces as usize;
-    if ends.len() < count {
+    if MOST_TRACES < traces || ends.len() < count {
         return false;
     }
     if !ends_rise(&ends[..count]) {
@@ -148,6 +163,26 @@ pub fn is_sound(store: Store, events: &[u8], ends: &[u32]) -> bool
     declared_front(activities, &events[..last]) == last
 }
 
+// What is left in a store. Any record and slices may come in.
+pub fn room_of(store: Store, events: &[u8], ends: &[u32]) -> Room
+    ensures { λ r. ⌜ r ≡ room (lent store (events .entry) (ends .entry)) ⌝ }
+{
+    Room {
+        activities: store.activities,
+        traces: store.traces,
+        last: last_end(store, ends),
+        events: events.len(),
+        ends: ends.len(),
+    }
+}
+
+// Whether no trace more can be kept beside so many, with so many places for ends.
+pub fn is_full(traces: u32, ends: usize) -> bool
+    ensures { λ r. ⌜ r ≡ full-test traces ends ⌝ }
+{
+    traces == MOST_TRACES || traces as usize == ends
+}
+
 fn refused(number: u8, detail: usize) -> AddAnswer
     ensures { λ r. ⌜ r ≡ AddAnswer.Refused (record { number = number; detail = detail }) ⌝ }
 {
@@ -156,28 +191,24 @@ fn refused(number: u8, detail: usize) -> AddAnswer
 
 // What add answers. Nothing is written before this is known.
 fn add_answer(store: Store, events: &[u8], ends: &[u32], trace: &[u8]) -> AddAnswer
-    ensures { λ r. ⌜ Answers (memory store (now (events .entry)) (now (ends .entry))) (now (trace .entry)) r ⌝ }
+    ensures { λ r. ⌜ Answers (lent store (events .entry) (ends .entry)) (now (trace .entry)) r ⌝ }
 {
     if !is_sound(store, events, ends) {
-        return refused(1, 0);
+        return refused(NOT_SOUND, 0);
     }
     let declared = declared_front(store.activities, trace);
     if declared < trace.len() {
-        return refused(6, declared + 1);
+        return refused(UNDECLARED, declared + 1);
     }
     if (LONGEST_TRACE as usize) < trace.len() {
-        return refused(7, 0);
+        return refused(TOO_LONG, 0);
     }
-    let traces = store.traces;
-    if traces == MOST_TRACES {
-        return refused(8, 0);
-    }
-    if traces as usize == ends.len() {
-        return refused(8, 0);
+    if is_full(store.traces, ends.len()) {
+        return refused(FULL, 0);
     }
     let last = last_end(store, ends) as usize;
     if events.len() - last < trace.len() {
-        return refused(9, 0);
+        return refused(NO_SPACE, 0);
     }
     AddAnswer::Added
 }
@@ -195,10 +226,8 @@ fn copy_in(events: &mut [u8], at: usize, trace: &[u8])
 
 // Appends the events and the end of a trace that add accepts.
 fn append(store: Store, events: &mut [u8], ends: &mut [u32], trace: &[u8]) -> Store
-    requires { ⌜ Answers (memory store (now events) (now ends)) (now trace) AddAnswer.Added ⌝ }
-    ensures { λ r.
-        ⌜ memory r (now (events .exit)) (now (ends .exit)) ≡
-        with-trace (memory store (now (events .entry)) (now (ends .entry))) (now (trace .entry)) ⌝ }
+    requires { ⌜ Answers (lent store events ends) (now trace) AddAnswer.Added ⌝ }
+    ensures { λ r. ⌜ lent r (events .exit) (ends .exit) ≡ with-trace (lent store (events .entry) (ends .entry)) (now (trace .entry)) ⌝ }
 {
     let last = last_end(store, ends) as usize;
     copy_in(events, last, trace);
@@ -214,8 +243,7 @@ fn append(store: Store, events: &mut [u8], ends: &mut [u32], trace: &[u8]) -> St
 // Appends a trace. A refused call changes no byte.
 pub fn add(store: Store, events: &mut [u8], ends: &mut [u32], trace: &[u8]) -> AddResult
     ensures { λ r.
-        ⌜ Adds (memory store (now (events .entry)) (now (ends .entry))) (now (trace .entry))
-        r (now (events .exit)) (now (ends .exit)) ⌝ }
+        ⌜ Adds (lent store (events .entry) (ends .entry)) (now (trace .entry)) (r .answer) (lent (r .store) (events .exit) (ends .exit)) ⌝ }
 {
     let answer = add_answer(store, events, ends, trace);
     match answer {

@@ -4,12 +4,12 @@ use libc::STDOUT_FILENO;
 
 fn main() {
     // One byte more than is allowed, to see that there are more.
-    let mut input = [0u8; 65537];
+    let mut input = [0u8; report::MOST_INPUT + 1];
     let n = io::read_full(STDIN_FILENO, &mut input);
-    let mut events = [0u8; 6552];
-    let mut ends = [0u32; 4095];
-    let mut list = [0u16; 32000];
-    let mut out = [0u8; 112019];
+    let mut events = [0u8; report::LENT_EVENTS];
+    let mut ends = [0u32; report::LENT_ENDS];
+    let mut list = [0u16; report::LIST];
+    let mut out = [0u8; report::OUT];
     let written = report::report(&input[..n], &mut events, &mut ends, &mut list, &mut out);
     io::write_all(STDOUT_FILENO, &out[..written]);
 }

@@ -1,4 +1,4 @@
+pub mod CallSteps
 pub mod Demand3
 pub mod Finds
 pub mod Replies
-pub mod Steps

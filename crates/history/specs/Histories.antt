@@ -4,20 +4,22 @@ use Prim.Native.Nat.{ℕ, _+_, _*_, _≤_}
 use mathlib.Core.Path.{_≡_}
 use mathlib.Core.Bool.{true, false}
 use mathlib.Core.List.{List, [], _∷_, _++_}
-use lib.ListN.{length, take, drop}
-use Rattle.eventlog.specs.Checks.{gives, refused, reply, when-passed}
-use Rattle.eventlog.specs.Store.{Memory, all-below, sound, kept}
+use mathlib.Core.Option.{some}
+use lib.ListN.{length, take, drop, getElem?}
+use Rattle.base.specs.Checks.{gives, refused, reply, when-passed}
+use Rattle.eventlog.specs.declared.Room.{Room}
 use Rattle.eventlog.specs.declared.OpenAnswer.{OpenAnswer}
-use Rattle.eventlog.specs.declared.AddResult.{AddResult}
-use Rattle.columns.specs.declared.ReadResult.{ReadResult}
+use Rattle.eventlog.specs.declared.AddAnswer.{AddAnswer}
+use Rattle.columns.specs.declared.ReadAnswer.{ReadAnswer}
 use Rattle.discovery.specs.declared.FindAnswer.{FindAnswer}
 use Rattle.discovery.specs.declared.Constraint.{Constraint}
-use Rattle.eventlog.specs.Calls.{Room, room, Opens, open-said, Undeclared, Adds, add-said}
+use Rattle.eventlog.specs.Store.{Memory, all-below, sound, kept, room}
+use Rattle.eventlog.specs.Calls.{Opens, open-said, Undeclared, Adds, add-said}
 use Rattle.columns.specs.Calls.{Reads, read-said}
-use Rattle.discovery.specs.Constraints.{trace-count, meets, fulfilments, survives, layout}
-use Rattle.discovery.specs.Claims.{Exactly, Alike}
+use Rattle.discovery.specs.Constraints.{Question, trace-count, is-listed, survives, layout}
+use Rattle.discovery.specs.Claims.{Exactly, AlikeQuestions}
 use Rattle.discovery.specs.Calls.{checks-for, Finds, find-said}
-use Rattle.history.specs.Ledger.{Call, open-for, add, read, find, Shown, only, Ledger, after, shows}
+use Rattle.history.specs.Ledger.{Call, open-for, add, read, find, Shown, only, Ledger, first-ledger, room-beside, question, after, shows}
 
 -- ## Histories
 
@@ -26,22 +28,18 @@ abbrev pub opened : Memory → OpenAnswer → Memory
 opened m (OpenAnswer.Opened store) = record { store = store; events = m .events; ends = m .ends }
 opened m (OpenAnswer.Refused refusal) = m
 
--- One call in a memory: what it may show and leave is what its function's contract says, in the contract's own words.
+-- One call in a memory: what it may show and leave is what its function's contract says, in the contract's own words. The functions of
+-- src/ promise just this.
 abbrev pub Called : Memory → Call → Shown → Memory → Type 0
-Called m (open-for n) s m′ =
-    (answer : OpenAnswer) × Opens n answer × (s ≡ only (open-said answer)) × (m′ ≡ opened m answer)
-Called m (add trace) s m′ =
-    (result : AddResult) × Adds m trace result (m′ .events) (m′ .ends)
-    × (s ≡ only (add-said (result .answer))) × (m′ .store ≡ result .store)
-Called m (read log) s m′ =
-    (result : ReadResult) × Reads m log result (m′ .events) (m′ .ends)
-    × (s ≡ only (read-said (result .answer))) × (m′ .store ≡ result .store)
+Called m (open-for n) s m′ = (answer : OpenAnswer) × Opens n answer × (s ≡ only (open-said answer)) × (m′ ≡ opened m answer)
+Called m (add trace) s m′ = (answer : AddAnswer) × Adds m trace answer m′ × (s ≡ only (add-said answer))
+Called m (read log) s m′ = (answer : ReadAnswer) × Reads m log answer m′ × (s ≡ only (read-said answer))
 Called m (find threshold list) s m′ =
     (answer : FindAnswer) × Finds m threshold list answer (s .list) × (s .said ≡ find-said answer) × (m′ ≡ m)
 
--- a fresh log for n activities: what an accepted open gives, beside buffers of any length and content
-abbrev pub Fresh : ℕ → Memory → Type 0
-Fresh n m = Opens n (OpenAnswer.Opened (m .store))
+-- a fresh store: what an accepted open gives, beside buffers of any length and content
+abbrev pub Fresh : Memory → Type 0
+Fresh m = Opens (m .store .activities) (OpenAnswer.Opened (m .store))
 
 -- the calls, from a memory to the last memory: each call gets the memory that the one before left
 abbrev pub History : Memory → List Call → List Shown → Memory → Type 0
@@ -52,13 +50,14 @@ History m (c ∷ cs) (s ∷ ss) last = (m′ : Memory) × Called m c s m′ × H
 
 -- ## The ledger beside a history
 
-abbrev pub first-ledger : ℕ → Ledger
-first-ledger n = record { activities = n; traces = [] }
-
 -- the ledger after the calls
 abbrev pub after-all : Room → Ledger → List Call → Ledger
-after-all room l [] = l
-after-all room l (c ∷ cs) = after-all room (after room l c) cs
+after-all space l [] = l
+after-all space l (c ∷ cs) = after-all space (after space l c) cs
+
+-- the ledger that is fed a fresh store's room, after the calls
+abbrev pub ledger-after : Memory → List Call → Ledger
+ledger-after m cs = after-all (room m) (first-ledger (room m)) cs
 
 -- the place is that of an undeclared activity, where the call is an add with one
 abbrev pub Free : ℕ → Call → ℕ → Type 0
@@ -69,11 +68,11 @@ Free n (find threshold list) place = Unit {0}
 
 -- each call shows what the ledger says
 abbrev pub Agrees : Room → Ledger → List Call → List Shown → Type 0
-Agrees room l [] [] = Unit {0}
-Agrees room l [] (s ∷ ss) = ⊥
-Agrees room l (c ∷ cs) [] = ⊥
-Agrees room l (c ∷ cs) (s ∷ ss) =
-    ((place : ℕ) × Free (l .activities) c place × (s ≡ shows place room l c)) × Agrees room (after room l c) cs ss
+Agrees space l [] [] = Unit {0}
+Agrees space l [] (s ∷ ss) = ⊥
+Agrees space l (c ∷ cs) [] = ⊥
+Agrees space l (c ∷ cs) (s ∷ ss) =
+    ((place : ℕ) × Free (l .activities) c place × (s ≡ shows place space l c)) × Agrees space (after space l c) cs ss
 
 -- no call is refused under number 1
 abbrev pub Never-1 : List Shown → Type 0
@@ -84,16 +83,14 @@ Never-1 (s ∷ ss) = ((detail : ℕ) → s .said ≡ refused 1 detail → ⊥) �
 pub record Keeps (space : Room) (l : Ledger) (m : Memory) : Type 0 where
   pub is-sound : sound m ≡ true
   pub traces : kept m ≡ l .traces
-  pub activities : m .store .activities ≡ l .activities
-  pub same-room : room m ≡ space
+  pub same-room : room m ≡ room-beside space l
 
 -- ## Finds
 
--- A history from a fresh log up to some find in it: the calls before, and what the find shows.
+-- A history from a fresh store up to some find in it: the calls before, and what the find shows.
 pub record FindIn : Type 0 where
-  pub n : ℕ
   pub start : Memory
-  pub is-fresh : Fresh n start
+  pub is-fresh : Fresh start
   pub before : List Call
   pub shown-before : List Shown
   pub memory : Memory
@@ -104,36 +101,27 @@ pub record FindIn : Type 0 where
   pub memory′ : Memory
   pub called : Called memory (find threshold list) shown memory′
 
-abbrev pub ledger-of : FindIn → Ledger
-ledger-of f = after-all (room (f .start)) (first-ledger (f .n)) (f .before)
+-- what it asks, by the ledger
+abbrev pub question-of : FindIn → Question
+question-of f = question (ledger-after (f .start) (f .before)) (f .threshold)
 
--- What a find shows over a ledger's traces. `listed` has exactly the constraints whose count meets the threshold and `replayed` exactly
--- those that pruning keeps, each in the stated order and once. The find is refused as it says, a list too short with the number needed;
--- or it gives the numbers, and the slice has the list laid out at its front, and after it what was there.
-pub record Right (l : Ledger) (threshold : ℕ) (list : List ℕ) (shown : Shown) : Type 0 where
+-- What a find shows. `listed` has exactly the constraints whose count meets the threshold and `replayed` exactly those that pruning
+-- keeps, each in the stated order and once. The find is refused as it says, a list too short with the number needed; or it gives the
+-- numbers, and the slice has the list laid out at its front, and after it what was there.
+pub record Right (q : Question) (list : List ℕ) (shown : Shown) : Type 0 where
   pub listed : List Constraint
-  pub exactly : Exactly (l .activities) (λ c. meets threshold (trace-count (l .traces)) (fulfilments (l .traces) c)) listed
+  pub exactly : Exactly (q .activities) (is-listed q) listed
   pub replayed : List Constraint
-  pub kept-by-pruning : Exactly (l .activities) (survives threshold (l .traces)) replayed
-  pub at-most : length replayed + 6 * l .activities ≤ 14 * l .activities * l .activities
+  pub kept-by-pruning : Exactly (q .activities) (survives q) replayed
+  pub at-most : length replayed + 6 * q .activities ≤ 14 * q .activities * q .activities
   pub said :
-      shown .said ≡
-      reply (checks-for (length listed) (trace-count (l .traces)) threshold list)
-      (length listed ∷ length replayed ∷ trace-count (l .traces) ∷ [])
+      shown .said ≡ reply (checks-for (length listed) q list) (length listed ∷ length replayed ∷ trace-count q ∷ [])
   pub written :
-      shown .list ≡
-      when-passed (checks-for (length listed) (trace-count (l .traces)) threshold list)
-      (layout (l .traces) listed ++ drop (4 * length listed) list) list
+      shown .list ≡ when-passed (checks-for (length listed) q list) (layout q listed ++ drop (4 * length listed) list) list
 
 -- the find was accepted
 abbrev pub Accepted : FindIn → Type 0
 Accepted f = (values : List ℕ) × (f .shown .said ≡ gives values)
-
--- two finds over as many activities, with one threshold and with alike traces
-pub record AlikeFinds (f g : FindIn) : Type 0 where
-  pub activities : ledger-of f .activities ≡ ledger-of g .activities
-  pub threshold : f .threshold ≡ g .threshold
-  pub traces : Alike (ledger-of f .traces) (ledger-of g .traces)
 
 -- two finds give equal lists and numbers
 pub record EqualFinds (f g : FindIn) : Type 0 where
@@ -144,20 +132,31 @@ pub record EqualFinds (f g : FindIn) : Type 0 where
   pub said′ : g .shown .said ≡ gives (listed ∷ replayed ∷ all ∷ [])
   pub lists : take (4 * listed) (f .shown .list) ≡ take (4 * listed) (g .shown .list)
 
+-- A find of a history, behind the calls `before`: it is from the same start, and what it shows stands at its place among all that was shown.
+pub record FindAt (m : Memory) (before : List Call) (threshold : ℕ) (list : List ℕ) (ss : List Shown) : Type 0 where
+  pub found : FindIn
+  pub same-start : found .start ≡ m
+  pub same-before : found .before ≡ before
+  pub same-threshold : found .threshold ≡ threshold
+  pub same-list : found .list ≡ list
+  pub shown-there : getElem? ss (length before) ≡ some (found .shown)
+
 -- Demand 3: one claim about all histories.
 pub record Demand3 : Type 0 where
   -- every call is accepted, or refused under the same number and detail, as in the ledger, but for the free place in refusal 6 of add
   pub agrees :
-      (n : ℕ) (m last : Memory) (cs : List Call) (ss : List Shown) → Fresh n m → History m cs ss last →
-      Agrees (room m) (first-ledger n) cs ss
+      (m last : Memory) (cs : List Call) (ss : List Shown) → Fresh m → History m cs ss last →
+      Agrees (room m) (first-ledger (room m)) cs ss
   -- 1 never comes
-  pub never-1 :
-      (n : ℕ) (m last : Memory) (cs : List Call) (ss : List Shown) → Fresh n m → History m cs ss last → Never-1 ss
+  pub never-1 : (m last : Memory) (cs : List Call) (ss : List Shown) → Fresh m → History m cs ss last → Never-1 ss
   -- the ledger's traces are the kept ones
   pub keeps :
-      (n : ℕ) (m last : Memory) (cs : List Call) (ss : List Shown) → Fresh n m → History m cs ss last →
-      Keeps (room m) (after-all (room m) (first-ledger n) cs) last
+      (m last : Memory) (cs : List Call) (ss : List Shown) → Fresh m → History m cs ss last → Keeps (room m) (ledger-after m cs) last
+  -- every find of every history is one of those that the next two speak of
+  pub every-find :
+      (m last : Memory) (before later : List Call) (threshold : ℕ) (list : List ℕ) (ss : List Shown) → Fresh m →
+      History m (before ++ (find threshold list ∷ later)) ss last → FindAt m before threshold list ss
   -- every find gives the ledger's list and numbers, or is refused as the ledger says
-  pub right : (f : FindIn) → Right (ledger-of f) (f .threshold) (f .list) (f .shown)
-  -- accepted finds that are alike give equal lists and numbers, in one history or in two
-  pub alike : (f g : FindIn) → Accepted f → Accepted g → AlikeFinds f g → EqualFinds f g
+  pub right : (f : FindIn) → Right (question-of f) (f .list) (f .shown)
+  -- accepted finds alike in N, threshold and kept traces, whatever their order, give equal lists and numbers, in one history or in two
+  pub alike : (f g : FindIn) → Accepted f → Accepted g → AlikeQuestions (question-of f) (question-of g) → EqualFinds f g

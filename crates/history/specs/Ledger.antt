@@ -3,10 +3,12 @@
 use Prim.Native.Nat.{ℕ}
 use mathlib.Core.List.{List, [], _∷_, _++_}
 use lib.ListN.{length}
-use Rattle.eventlog.specs.Checks.{Check, Reply, reply, when-passed}
+use Rattle.base.specs.Checks.{Reply, reply, when-passed}
+use Rattle.eventlog.specs.declared.Room.{Room}
 use Rattle.eventlog.specs.Store.{total}
-use Rattle.eventlog.specs.Calls.{Room, open-checks, add-checks}
-use Rattle.columns.specs.Log.{Onto, log-checks, spelled}
+use Rattle.eventlog.specs.Calls.{open-checks, add-checks}
+use Rattle.columns.specs.Log.{log-checks, spelled}
+use Rattle.discovery.specs.Constraints.{Question}
 use Rattle.discovery.specs.Calls.{find-checks, find-values, with-list}
 
 -- A call, with what it brings: a step count, a trace, a log's bytes, or a threshold and what stands in the slice lent for the list.
@@ -24,35 +26,44 @@ pub record Shown : Type 0 where
 abbrev pub only : Reply → Shown
 only said = record { said = said; list = [] }
 
+-- It holds N and a list of traces.
 pub record Ledger : Type 0 where
   pub activities : ℕ
   pub traces : List (List ℕ)
 
-abbrev pub onto : Room → Ledger → Onto
-onto room l = record { activities = l .activities; room = room; count = length (l .traces); last = total (l .traces) }
+-- it is fed the fresh store's room, of which it takes N and the lengths of the buffers; at first there are no traces
+abbrev pub first-ledger : Room → Ledger
+first-ledger space = record { activities = space .activities; traces = [] }
 
-abbrev pub checks-of-add : ℕ → Room → Ledger → List ℕ → List Check
-checks-of-add place room l trace = add-checks place room (l .activities) (length (l .traces)) (total (l .traces)) trace
+-- the run count is the number of its runs, and the last end the sum of their lengths
+abbrev pub room-beside : Room → Ledger → Room
+room-beside space l =
+    record {
+      activities = l .activities;
+      traces = length (l .traces);
+      last = total (l .traces);
+      events = space .events;
+      ends = space .ends;
+    }
+
+abbrev pub question : Ledger → ℕ → Question
+question l threshold = record { activities = l .activities; traces = l .traces; threshold = threshold }
 
 abbrev pub with-all : Ledger → List (List ℕ) → Ledger
 with-all l traces = record { activities = l .activities; traces = l .traces ++ traces }
 
 -- the ledger after a call
 abbrev pub after : Room → Ledger → Call → Ledger
-after room l (open-for n) = when-passed (open-checks n) (record { activities = n; traces = [] }) l
-after room l (add trace) = when-passed (checks-of-add 0 room l trace) (with-all l (trace ∷ [])) l
-after room l (read log) = when-passed (log-checks (onto room l) log) (with-all l (spelled log)) l
-after room l (find threshold list) = l
+after space l (open-for n) = when-passed (open-checks n) (record { activities = n; traces = [] }) l
+after space l (add trace) = when-passed (add-checks 0 (room-beside space l) trace) (with-all l (trace ∷ [])) l
+after space l (read log) = when-passed (log-checks (room-beside space l) log) (with-all l (spelled log)) l
+after space l (find threshold list) = l
 
 -- what a call shows, `place` standing for the place that is free in refusal 6 of add
 abbrev pub shows : ℕ → Room → Ledger → Call → Shown
-shows place room l (open-for n) = only (reply (open-checks n) (n ∷ 0 ∷ []))
-shows place room l (add trace) = only (reply (checks-of-add place room l trace) [])
-shows place room l (read log) = only (reply (log-checks (onto room l) log) (length (spelled log) ∷ []))
-shows place room l (find threshold list) =
-    record {
-      said = reply (find-checks (l .activities) (l .traces) threshold list) (find-values (l .activities) (l .traces) threshold);
-      list =
-          when-passed (find-checks (l .activities) (l .traces) threshold list)
-          (with-list (l .activities) (l .traces) threshold list) list;
-    }
+shows place space l (open-for n) = only (reply (open-checks n) (n ∷ 0 ∷ []))
+shows place space l (add trace) = only (reply (add-checks place (room-beside space l) trace) [])
+shows place space l (read log) = only (reply (log-checks (room-beside space l) log) (length (spelled log) ∷ []))
+shows place space l (find threshold list) =
+    let q = question l threshold in
+    record { said = reply (find-checks q list) (find-values q); list = when-passed (find-checks q list) (with-list q list) list }

@@ -12,7 +12,7 @@ use lib.Seq.{sets}
 use Rattle.columns.specs.Field.{blank, spell}
 use Rattle.columns.proofs.Fields.{length-spell, spell-long, spell-short}
 use Rattle.report.specs.Print.{column-of}
-use Rattle.report.proofs.Stores.{set-then-sets}
+use Rattle.base.proofs.Stores.{set-then-sets}
 
 -- the columns of a number, the last of them too blank where it is 0
 abbrev pub filled : ℕ → ℕ → List ℕ

@@ -1,9 +1,7 @@
 pub mod Columns
-pub mod Finding
-pub mod Outcomes
+pub mod FindPrinted
 pub mod Puts
-pub mod Reading
+pub mod ReadPrinted
 pub mod Reporting
 pub mod SettingsLine
-pub mod Stores
 pub mod Whole

@@ -7,7 +7,7 @@ use mathlib.Core.List.{List, _++_, append-nil, append-assoc}
 use lib.ListN.{length, drop, length-append}
 use lib.Seq.{length-sets, getD-drop}
 use Rattle.report.specs.Puts.{Puts, line-at, lines-of}
-use Rattle.report.proofs.Stores.{sets-append}
+use Rattle.base.proofs.Stores.{sets-append}
 
 pub put-then :
     {out out′ out″ xs ys : List ℕ} {at m n next next′ : ℕ} →

@@ -1,64 +1,48 @@
 -- The settings line: what its two fields set.
 -- Assumes nothing.
-use Prim.Native.Nat.{ℕ, zero, suc, _+_, _≤_, _<_}
-use native.Mathlib.Nat.{zero-add, suc-add}
+use Prim.Native.Nat.{ℕ, _≤_, _<_}
 use native.Mathlib.Omega.{arith}
 use mathlib.Core.Path.{_≡_, refl}
-use mathlib.Core.Bool.{Bool, true, false}
-use mathlib.Core.List.{List, [], _∷_}
-use borrow.Author.Tests.{leb-true, le-leb, lt-leb, eq-eqb, ne-eqb}
+use mathlib.Core.Bool.{Bool, true, false, _&&_, and-false}
+use mathlib.Core.List.{List}
+use borrow.Author.Tests.{leb-true, le-leb, lt-leb}
 use lib.Dec.{eqb, leb}
 use lib.ListN.{length, getD, take, drop}
-use lib.Seq.{slice, length-slice, take-nil}
-use Rattle.declare.specs.Logic.{_and_, if_then_else_}
+use lib.Seq.{slice, length-slice}
+use Rattle.base.specs.Logic.{if_then_else_}
+use Rattle.base.proofs.Bools.{and-left}
+use Rattle.base.proofs.Lists.{take-drop}
 use Rattle.columns.specs.declared.Field.{Field}
-use Rattle.declare.proofs.Bools.{and-left}
 use Rattle.columns.specs.Field.{line-feed, well-formed, value, widest, field-of}
 use Rattle.report.specs.declared.Settings.{Settings}
 use Rattle.report.specs.Report.{settings-laid-out, activities-set, threshold-set}
-use Rattle.report.specs.Steps.{both-set, settings-of}
-
--- a part, by its first place and its length
-part : (a n : ℕ) (l : List ℕ) → take n (drop a l) ≡ slice a (a + n) l
-part zero n l = rw zero-add
-part (suc a) n [] = rw suc-add (take-nil n)
-part (suc a) n (x ∷ l) = rw suc-add (part a n l)
+use Rattle.report.specs.Stages.{both-set, settings-of}
 
 pub cut-short : (input : List ℕ) → length input < 8 → settings-of input ≡ Settings.Malformed
 unfolding settings-laid-out
 cut-short input h = rw (lt-leb 8 (length input) h)
 
-and-false : (p q r : Bool) → p and q and r and false ≡ false
-and-false true true true = refl
-and-false true true false = refl
-and-false true false r = refl
-and-false false q r = refl
-
-pub no-line-feed : (input : List ℕ) → (getD input 7 0 ≡ 10 → ⊥) → settings-of input ≡ Settings.Malformed
+pub no-line-feed : (input : List ℕ) → eqb (getD input 7 0) line-feed ≡ false → settings-of input ≡ Settings.Malformed
 unfolding settings-laid-out
-no-line-feed input h =
-    rw (
-      ne-eqb (getD input 7 0) 10 h,
-      and-false (leb 8 (length input)) (well-formed (slice 0 3 input)) (well-formed (slice 3 7 input)),
-    )
+no-line-feed input h = rw (h, and-false)
 
 both-by :
     (p q : Bool) (n threshold : ℕ) →
     both-set (if p then Field.Number n else Field.Malformed) (if q then Field.Number threshold else Field.Malformed)
-    ≡ (if p and q and true then Settings.Set n threshold else Settings.Malformed)
+    ≡ (if p && q && true then Settings.Set n threshold else Settings.Malformed)
 both-by true true n threshold = refl
 both-by true false n threshold = refl
 both-by false q n threshold = refl
 
 -- two fields and a line feed
 pub settings-set :
-    (input : List ℕ) → 8 ≤ length input → getD input 7 0 ≡ 10 →
+    (input : List ℕ) → 8 ≤ length input → eqb (getD input 7 0) line-feed ≡ true →
     both-set (field-of (take 3 input)) (field-of (take 4 (drop 3 input))) ≡ settings-of input
 unfolding settings-laid-out activities-set threshold-set
 settings-set input long feed =
     let three : leb (length (slice 0 3 input)) widest ≡ true = le-leb (length (slice 0 3 input)) widest (omega (arith, length-slice 0 3 input (omega arith))) in
     let four : leb (length (slice 3 7 input)) widest ≡ true = le-leb (length (slice 3 7 input)) widest (omega (arith, length-slice 3 7 input (omega arith))) in
-    rw (part 3 4 input, le-leb 8 (length input) long, eq-eqb (getD input 7 0) 10 feed, three, four)
+    rw (take-drop 3 4 input, le-leb 8 (length input) long, feed, three, four)
     (both-by (well-formed (slice 0 3 input)) (well-formed (slice 3 7 input)) (value (slice 0 3 input)) (value (slice 3 7 input)))
 
 -- ## What the settings say of the line
@@ -73,7 +57,8 @@ long-enough : (input : List ℕ) → settings-laid-out input ≡ true → 8 ≤ 
 unfolding settings-laid-out
 long-enough input h =
     leb-true 8 (length input)
-    (and-left (leb 8 (length input)) (well-formed (slice 0 3 input) and well-formed (slice 3 7 input) and eqb (getD input 7 0) line-feed) h)
+    (and-left _ (well-formed (slice 0 3 input))
+    (and-left _ (well-formed (slice 3 7 input)) (and-left _ (eqb (getD input 7 0) line-feed) h)))
 
 pub set-by : (input : List ℕ) (n threshold : ℕ) → settings-of input ≡ Settings.Set n threshold → LaidOut input n threshold
 set-by input n threshold = go (settings-laid-out input) refl

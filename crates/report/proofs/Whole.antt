@@ -3,83 +3,54 @@
 use Prim.Native.Nat.{ℕ, zero, suc, _+_, _*_, _^_, _≤_, _<_}
 use native.Mathlib.Nat.{mul-le-mul}
 use native.Mathlib.Omega.{arith}
-use mathlib.Core.Path.{_≡_, refl, ap}
-use mathlib.Core.Bool.{Bool, true, false}
-use mathlib.Core.List.{List, [], _∷_, _++_}
-use borrow.Author.Tests.{ltb-false}
+use mathlib.Core.Path.{_≡_, ap}
+use mathlib.Core.Bool.{true}
+use mathlib.Core.List.{List, [], _∷_}
+use borrow.Author.Tests.{ltb-false, not-false}
 use lib.ListN.{length, replicate, length-replicate, length-drop, drop}
-use Rattle.declare.specs.Logic.{if_then_else_}
+use Rattle.base.specs.Checks.{refused, reply}
+use Rattle.base.proofs.Checks.{none-fail, none-fail-reply, none-fail-both, Passed, Each, each-append, refused-each}
+use Rattle.base.proofs.Lists.{count-at-most}
 use Rattle.declare.specs.Meaning.{fulfilled}
-use Rattle.eventlog.specs.Checks.{Check, gives, refused, reply}
-use Rattle.eventlog.specs.Store.{most-activities}
-use Rattle.eventlog.proofs.Laws.{kept-length, sound-facts}
-use Rattle.eventlog.proofs.Adding.{none-fail}
-use Rattle.columns.specs.Log.{Line, Onto, Before, nothing-read, with-line, lines-within, lines, log-checks-from, log-checks, spelled}
+use Rattle.eventlog.specs.declared.Room.{Room}
+use Rattle.eventlog.specs.Store.{most-activities, declarable}
+use Rattle.eventlog.proofs.Laws.{declared-range, kept-length, sound-facts}
+use Rattle.columns.specs.Log.{Line, Before, nothing-read, with-line, lines-within, lines, log-checks-from, log-checks, spelled}
 use Rattle.columns.specs.Calls.{with-traces}
 use Rattle.discovery.specs.declared.Constraint.{Constraint}
-use Rattle.discovery.specs.Constraints.{fulfilments, listed, replayed}
+use Rattle.discovery.specs.Constraints.{Question, fulfilments, listed, replayed}
 use Rattle.discovery.specs.Calls.{find-checks}
-use Rattle.discovery.proofs.Listing.{listed-exactly, how-many-at-most, replayed-at-most, listed-within-replayed}
-use Rattle.report.specs.Report.{most-input, lent-events, lent-ends, lent-list, onto-empty, empty-log}
-use Rattle.report.specs.Report.{activities-set, threshold-set, log-of, threshold-check, checks-to-read, checks-of-report}
+use Rattle.discovery.proofs.Listing.{listed-exactly, replayed-at-most, listed-within-replayed}
+use Rattle.report.specs.Report.{most-input, lent-events, lent-ends, lent-list, log-of, activities-set, threshold-set}
+use Rattle.report.specs.Report.{question-of, question-set, room-lent, empty-store, checks-to-read, checks-of-report}
 use Rattle.report.specs.Whole.{WholeLines, Whole}
-use Rattle.report.proofs.Outcomes.{outcome, Passed}
-use Rattle.report.proofs.Reading.{filled}
-use Rattle.report.proofs.Reporting.{too-long, badly-laid-out, undeclared, declared}
+use Rattle.report.proofs.ReadPrinted.{filled}
 
 -- ## Refusals
 
 abbrev WholeRefusal : ℕ → ℕ → Type 0
 WholeRefusal number detail = (number < 10 ^ 2) × (detail < 10 ^ 6)
 
--- a refusal of the first check, or of the others where it passes
-refusal-step :
-    (c : Check) (rest : List Check) (number detail : ℕ) → WholeRefusal (c .number) (c .detail) →
-    (c .fails ≡ false → reply rest [] ≡ refused number detail → WholeRefusal number detail) →
-    reply (c ∷ rest) [] ≡ refused number detail → WholeRefusal number detail
-refusal-step c rest number detail small next = go (c .fails) refl
-  where
-    go :
-        (fails : Bool) → c .fails ≡ fails → (if fails then refused (c .number) (c .detail) else reply rest []) ≡ refused number detail →
-        WholeRefusal number detail
-    go true e h =
-        let same-number : c .number ≡ number = cc in
-        let same-detail : c .detail ≡ detail = cc in
-        (rw same-number at (small .0), rw same-detail at (small .1))
-    go false e h = next e h
-
--- every check is so
-abbrev AllWhole : List Check → Type 0
-AllWhole [] = Unit {0}
-AllWhole (c ∷ checks) = WholeRefusal (c .number) (c .detail) × AllWhole checks
-
-all-whole :
-    (checks : List Check) (number detail : ℕ) → AllWhole checks → reply checks [] ≡ refused number detail → WholeRefusal number detail
-all-whole [] number detail w h = let z : _≡_ {A = ℕ} 0 1 = cc in absurd (omega arith)
-all-whole (c ∷ checks) number detail w h =
-    refusal-step c checks number detail (w .0) (λ passes rest. all-whole checks number detail (w .1) rest) h
-
-whole-append : (xs ys : List Check) → AllWhole xs → AllWhole ys → AllWhole (xs ++ ys)
-whole-append [] ys v w = w
-whole-append (c ∷ xs) ys v w = (v .0, whole-append xs ys (v .1) w)
-
 -- a log's details are its lines
-whole-lines : (o : Onto) (before : Before) (place : ℕ) (ls : List Line) → place + length ls ≤ 10 ^ 6 → AllWhole (log-checks-from o before place ls)
-whole-lines o before place [] h = tt
-whole-lines o before place (line ∷ rest) h =
+whole-lines :
+    (r : Room) (before : Before) (place : ℕ) (ls : List Line) → place + length ls ≤ 10 ^ 6 →
+    Each WholeRefusal (log-checks-from r before place ls)
+whole-lines r before place [] h = tt
+whole-lines r before place (line ∷ rest) h =
     let p : place < 10 ^ 6 = omega arith in (
       (omega arith, p),
-      (
+      λ a. (
         (omega arith, p),
-        (
+        λ b. (
           (omega arith, p),
-          (
+          λ c. (
             (omega arith, p),
-            (
+            λ d. (
               (omega arith, p),
-              (
+              λ e. (
                 (omega arith, p),
-                whole-lines o (with-line before line) (place + 1) rest (omega arith),
+                λ f.
+                    whole-lines r (with-line before line) (place + 1) rest (omega arith),
               ),
             ),
           ),
@@ -92,23 +63,23 @@ lines-few zero log = omega arith
 lines-few (suc most) [] = omega arith
 lines-few (suc most) (byte ∷ bytes) = omega (arith, lines-few most (drop 10 (byte ∷ bytes)))
 
-whole-log : (o : Onto) (log : List ℕ) → length log ≤ most-input → AllWhole (log-checks o log)
+whole-log : (r : Room) (log : List ℕ) → length log ≤ most-input → Each WholeRefusal (log-checks r log)
 unfolding log-checks lines
-whole-log o log h = whole-lines o nothing-read 1 (lines log) (omega (arith, lines-few (length log) log))
+whole-log r log h = whole-lines r nothing-read 1 (lines log) (omega (arith, lines-few (length log) log))
 
 -- ## A find's numbers
 
-module _ (n threshold : ℕ) (traces : List (List ℕ)) (few : n ≤ most-activities) where
-  replayed-few : replayed n threshold traces ≤ 14336
+module _ (q : Question) (few : q .activities ≤ most-activities) where
+  replayed-few : replayed q ≤ 14336
   replayed-few =
-      let fourteen : 14 * n ≤ 448 = omega arith in
-      omega (arith, replayed-at-most n threshold traces, mul-le-mul fourteen few)
+      let fourteen : 14 * q .activities ≤ 448 = omega arith in
+      omega (arith, replayed-at-most q, mul-le-mul fourteen few)
 
-  listed-few : length (listed n threshold traces) ≤ 14336
-  listed-few = omega (arith, replayed-few, listed-within-replayed n threshold traces)
+  listed-few : length (listed q) ≤ 14336
+  listed-few = omega (arith, replayed-few, listed-within-replayed q)
 
-  whole-find : AllWhole (find-checks n traces threshold lent-list)
-  whole-find = ((omega arith, omega arith), ((omega arith, omega arith), ((omega arith, omega (arith, listed-few)), tt)))
+  whole-find : Each WholeRefusal (find-checks q lent-list)
+  whole-find = ((omega arith, omega arith), λ a. ((omega arith, omega arith), λ b. ((omega arith, omega (arith, listed-few)), λ c. tt)))
 
 whole-refusal :
     (input : List ℕ) (number detail : ℕ) → reply (checks-of-report input) [] ≡ refused number detail → WholeRefusal number detail
@@ -116,16 +87,22 @@ unfolding checks-to-read checks-of-report
 whole-refusal input number detail =
     let n = activities-set input in
     let log = log-of input in
-    let after-threshold = log-checks (onto-empty n) log ++ find-checks n (spelled log) (threshold-set input) lent-list in
-    let after-open = threshold-check (threshold-set input) ∷ after-threshold in
-    refusal-step (too-long input) (badly-laid-out input ∷ undeclared n ∷ after-open) number detail (omega arith, omega arith) λ short.
-    refusal-step (badly-laid-out input) (undeclared n ∷ after-open) number detail (omega arith, omega arith) λ laid-out.
-    refusal-step (undeclared n) after-open number detail (omega arith, omega arith) λ passes.
-    refusal-step (threshold-check (threshold-set input)) after-threshold number detail (omega arith, omega arith) λ met.
-    all-whole after-threshold number detail
-    (whole-append (log-checks (onto-empty n) log) (find-checks n (spelled log) (threshold-set input) lent-list)
-    (whole-log (onto-empty n) log (omega (arith, ltb-false most-input (length input) short, length-drop 8 input)))
-    (whole-find n (threshold-set input) (spelled log) (declared n passes .1)))
+    refused-each WholeRefusal (checks-of-report input) [] number detail (
+      (omega arith, omega arith),
+      λ short. (
+        (omega arith, omega arith),
+        λ laid-out. (
+          (omega arith, omega arith),
+          λ passes. (
+            (omega arith, omega arith),
+            λ met.
+                each-append WholeRefusal (log-checks (room-lent n) log) (find-checks (question-set input) lent-list)
+                (whole-log (room-lent n) log (omega (arith, ltb-false most-input (length input) short, length-drop 8 input)))
+                (λ read. whole-find (question-set input) (declared-range n (not-false (declarable n) passes) .1)),
+          ),
+        ),
+      ),
+    )
 
 -- ## The report
 
@@ -144,34 +121,33 @@ length-ends : length some-ends ≡ lent-ends
 unfolding some-ends
 length-ends = length-replicate {A = ℕ} lent-ends 0
 
-passed-both : (xs ys : List Check) → Passed (xs ++ ys) → Passed xs × Passed ys
-passed-both [] ys = λ h. (refl, h)
-passed-both (c ∷ xs) ys =
-    let here = refused (c .number) (c .detail) in
-    elim (c .fails)
-    as (λ fails. (if fails then here else outcome (xs ++ ys)) ≡ gives [] → ((if fails then here else outcome xs) ≡ gives []) × Passed ys)
-    [ true ↦ λ h. (h, cc) | false ↦ passed-both xs ys ]
-
-module _ (n : ℕ) (log : List ℕ) (low : 1 ≤ n) (high : n ≤ most-activities) (passed : Passed (log-checks (onto-empty n) log)) where
+module _ (n threshold : ℕ) (log : List ℕ) (declared : declarable n ≡ true) (passed : Passed (log-checks (room-lent n) log)) where
   traces-few : length (spelled log) ≤ 4095
   traces-few =
-      let m = with-traces (empty-log n some-events some-ends) (spelled log) in
-      let f = filled n log some-events some-ends low high length-events length-ends passed in
-      omega (arith, kept-length m (f .is-sound), sound-facts m (f .is-sound) .few-traces, ap length (f .keeps))
+      let m = with-traces (empty-store n some-events some-ends) (spelled log) in
+      let f = filled n threshold log some-events some-ends declared length-events length-ends passed in
+      omega (
+        arith,
+        kept-length m (f .is-sound),
+        sound-facts m (f .is-sound) .few-traces,
+        ap (λ (q : Question). length (q .traces)) (f .asks),
+      )
 
   fulfilled-few : (c : Constraint) → fulfilments (spelled log) c ≤ 4095
   unfolding fulfilments
-  fulfilled-few c = omega (arith, traces-few, how-many-at-most (fulfilled (c .template) (c .a) (c .b)) (spelled log))
+  fulfilled-few c = omega (arith, traces-few, count-at-most (fulfilled (c .template) (c .a) (c .b)) (spelled log))
 
-  whole-report : (threshold : ℕ) → WholeLines n threshold (spelled log)
-  whole-report threshold =
+  whole-report : WholeLines (question-of n threshold log)
+  whole-report =
+      let q = question-of n threshold log in
+      let high = declared-range n declared .1 in
       record {
-        constraints = omega (arith, listed-few n threshold (spelled log) high);
-        replays = omega (arith, replayed-few n threshold (spelled log) high);
+        constraints = omega (arith, listed-few q high);
+        replays = omega (arith, replayed-few q high);
         all = omega (arith, traces-few);
         each =
             λ c member.
-            let over = (listed-exactly n threshold (spelled log) .members c) .0 member .0 in
+            let over = (listed-exactly q .members c) .0 member .0 in
             (omega (arith, over .1), omega (arith, over .2), omega (arith, over .3), omega (arith, fulfilled-few c));
       }
 
@@ -184,10 +160,8 @@ whole input =
       report =
           λ passed.
           let n = activities-set input in
-          let log = log-of input in
-          let bounds = declared n (none-fail (checks-of-report input) [] [] passed .1 .1 .0) in
-          let first = too-long input ∷ badly-laid-out input ∷ undeclared n ∷ threshold-check (threshold-set input) ∷ [] in
-          let find = find-checks n (spelled log) (threshold-set input) lent-list in
-          let logged = passed-both first (log-checks (onto-empty n) log ++ find) passed .1 in
-          whole-report n log (bounds .0) (bounds .1) (passed-both (log-checks (onto-empty n) log) find logged .0) (threshold-set input);
+          let read = log-checks (room-lent n) (log-of input) in
+          let none = none-fail (checks-of-report input) [] [] passed in
+          let none-of-read = none-fail-both read (find-checks (question-set input) lent-list) (none .1 .1 .1 .1) .0 in
+          whole-report n (threshold-set input) (log-of input) (not-false (declarable n) (none .1 .1 .0)) (none-fail-reply read [] none-of-read);
     }

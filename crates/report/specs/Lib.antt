@@ -2,5 +2,5 @@ pub mod Examples
 pub mod Print
 pub mod Puts
 pub mod Report
-pub mod Steps
+pub mod Stages
 pub mod Whole

@@ -4,10 +4,10 @@ use Prim.Native.Nat.{ℕ, _+_, _%_}
 use mathlib.Core.List.{List, [], _∷_, _++_}
 use lib.Dec.{eqb, leb}
 use lib.ListN.{length, replicate}
-use Rattle.declare.specs.Logic.{if_then_else_}
+use Rattle.base.specs.Logic.{if_then_else_}
 use Rattle.columns.specs.Field.{blank, line-feed, spell}
-use Rattle.discovery.specs.Lists.{for-each}
-use Rattle.discovery.specs.Constraints.{trace-count, fulfilments, listed, replayed}
+use Rattle.base.specs.Lists.{flat-map}
+use Rattle.discovery.specs.Constraints.{Question, trace-count, fulfilments, listed, replayed}
 
 -- a column before a field's last: a digit, or blank where nothing is left of the number
 abbrev pub column-of : ℕ → ℕ
@@ -26,9 +26,9 @@ unfoldable pub constraint-line : ℕ → ℕ → ℕ → ℕ → List ℕ
 constraint-line template a b count =
     spell 2 template ++ spell 3 a ++ (if leb template 8 then replicate 3 blank else spell 3 b) ++ spell 5 count ++ line-feed ∷ []
 
--- the report of a find over these traces
-unfoldable pub found-text : ℕ → ℕ → List (List ℕ) → List ℕ
+-- the report of a find
+unfoldable pub found-text : Question → List ℕ
 unfolding first-line constraint-line
-found-text n threshold traces =
-    first-line (length (listed n threshold traces)) (replayed n threshold traces) (trace-count traces)
-    ++ for-each (listed n threshold traces) λ c. constraint-line (c .template) (c .a) (c .b) (fulfilments traces c)
+found-text q =
+    first-line (length (listed q)) (replayed q) (trace-count q)
+    ++ flat-map (listed q) λ c. constraint-line (c .template) (c .a) (c .b) (fulfilments (q .traces) c)

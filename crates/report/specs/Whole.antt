@@ -4,21 +4,20 @@ use Prim.Native.Nat.{ℕ, _^_, _<_}
 use mathlib.Core.Path.{_≡_}
 use mathlib.Core.List.{List, [], List·Mem}
 use lib.ListN.{length}
-use Rattle.eventlog.specs.Checks.{gives, refused, reply}
-use Rattle.columns.specs.Log.{spelled}
+use Rattle.base.specs.Checks.{gives, refused, reply}
 use Rattle.discovery.specs.declared.Constraint.{Constraint}
-use Rattle.discovery.specs.Constraints.{trace-count, fulfilments, listed, replayed}
-use Rattle.report.specs.Report.{activities-set, threshold-set, log-of, checks-of-report}
+use Rattle.discovery.specs.Constraints.{Question, trace-count, fulfilments, listed, replayed}
+use Rattle.report.specs.Report.{question-set, checks-of-report}
 
--- the numbers of the lines of a find over these traces
-pub record WholeLines (n threshold : ℕ) (traces : List (List ℕ)) : Type 0 where
-  pub constraints : length (listed n threshold traces) < 10 ^ 6
-  pub replays : replayed n threshold traces < 10 ^ 6
-  pub all : trace-count traces < 10 ^ 6
+-- the numbers of the lines of a find
+pub record WholeLines (q : Question) : Type 0 where
+  pub constraints : length (listed q) < 10 ^ 6
+  pub replays : replayed q < 10 ^ 6
+  pub all : trace-count q < 10 ^ 6
   pub each :
-      (c : Constraint) → List·Mem c (listed n threshold traces) →
-      (c .template < 10 ^ 2) × (c .a < 10 ^ 3) × (c .b < 10 ^ 3) × (fulfilments traces c < 10 ^ 5)
+      (c : Constraint) → List·Mem c (listed q) →
+      (c .template < 10 ^ 2) × (c .a < 10 ^ 3) × (c .b < 10 ^ 3) × (fulfilments (q .traces) c < 10 ^ 5)
 
 pub record Whole (input : List ℕ) : Type 0 where
   pub refusal : (number detail : ℕ) → reply (checks-of-report input) [] ≡ refused number detail → (number < 10 ^ 2) × (detail < 10 ^ 6)
-  pub report : reply (checks-of-report input) [] ≡ gives [] → WholeLines (activities-set input) (threshold-set input) (spelled (log-of input))
+  pub report : reply (checks-of-report input) [] ≡ gives [] → WholeLines (question-set input)

@@ -7,28 +7,39 @@ use eventlog::OpenAnswer;
 use eventlog::Refusal;
 use eventlog::Store;
 ghost use mathlib.Core.Path.{_≡_};
+ghost use mathlib.Core.Bool.{true};
 ghost use mathlib.Core.List.{[], _∷_, _++_};
 ghost use Prim.Native.Nat.{_+_, _*_, _≤_};
 ghost use lib.Dec.{leb};
 ghost use lib.ListN.{length, replicate};
-ghost use Rattle.declare.specs.Logic.{if_then_else_};
-ghost use Rattle.eventlog.specs.Store.{memory};
+ghost use Rattle.base.specs.Logic.{if_then_else_};
+ghost use Rattle.eventlog.specs.Store.{declarable, lent};
 ghost use Rattle.eventlog.specs.Calls.{open-checks};
 ghost use Rattle.columns.specs.Field.{blank, line-feed, spell};
 ghost use Rattle.columns.specs.Log.{log-checks};
+ghost use Rattle.discovery.specs.Calls.{threshold-check};
 ghost use Rattle.report.specs.Print.{column-of, refusal-line, first-line, constraint-line};
-ghost use Rattle.report.specs.Report.{threshold-check, onto-empty, Reports};
+ghost use Rattle.report.specs.Report.{room-lent, question-of, Reports};
 ghost use Rattle.report.specs.Puts.{Puts, line-at, lines-of};
-ghost use Rattle.report.specs.Steps.{both-set, settings-of, PrintsFind, Prints, checks-of-log, checks-of-set};
+ghost use Rattle.report.specs.Stages.{both-set, settings-of, PrintsFind, Prints};
 
-// What findrules lends: events, ends, a list of 8000 constraints of four numbers, and their lines of 14 bytes with the first line's 19.
-const EVENTS: usize = 6552;
+pub const MOST_INPUT: usize = 65536;
 
-const ENDS: usize = 4095;
+// What findrules lends.
+pub const LENT_EVENTS: usize = 6552;
 
-const LIST: usize = 32000;
+pub const LENT_ENDS: usize = 4095;
 
-const OUT: usize = 112019;
+pub const LENT_CONSTRAINTS: usize = 8000;
+
+// Four numbers a constraint.
+pub const LIST: usize = 4 * LENT_CONSTRAINTS;
+
+// The first line, and a line for each constraint.
+pub const OUT: usize = 19 + 14 * LENT_CONSTRAINTS;
+
+// Document 01's number of the refusal that comes from here.
+pub const TOO_MUCH_INPUT: u8 = 12;
 
 fn wide(x: u16) -> usize
     ensures { λ r. ⌜ r ≡ x ⌝ }
@@ -39,7 +50,11 @@ fn wide(x: u16) -> usize
 fn column(n: usize) -> u8
     ensures { λ r. ⌜ r ≡ column-of n ⌝ }
 {
-    if n == 0 { 32 } else { 48 + (n % 10) as u8 }
+    if n == 0 {
+        columns::BLANK
+    } else {
+        48 + (n % 10) as u8
+    }
 }
 
 // A field, from its last column to its first.
@@ -62,7 +77,7 @@ fn put_line_feed(out: &mut [u8], at: usize) -> usize
     requires { ⌜ at + 1 ≤ length (now out) ⌝ }
     ensures { λ r. ⌜ Puts (now (out .entry)) at 1 (line-feed ∷ []) r (now (out .exit)) ⌝ }
 {
-    out[at] = 10;
+    out[at] = columns::LINE_FEED;
     at + 1
 }
 
@@ -72,9 +87,9 @@ fn put_second(out: &mut [u8], at: usize, template: usize, b: usize) -> usize
     ensures { λ r. ⌜ Puts (now (out .entry)) at 3 (if leb template 8 then replicate 3 blank else spell 3 b) r (now (out .exit)) ⌝ }
 {
     if template <= 8 {
-        out[at] = 32;
-        out[at + 1] = 32;
-        out[at + 2] = 32;
+        out[at] = columns::BLANK;
+        out[at + 1] = columns::BLANK;
+        out[at + 2] = columns::BLANK;
         return at + 3;
     }
     put_field(out, at, 3, b)
@@ -134,11 +149,11 @@ fn put_first(out: &mut [u8], constraints: usize, replayed: usize, traces: usize)
     put_line_feed(out, after_traces)
 }
 
-fn refuse(out: &mut [u8], number: usize, detail: usize) -> usize
+fn refuse(out: &mut [u8], number: u8, detail: usize) -> usize
     requires { ⌜ 9 ≤ length (now out) ⌝ }
     ensures { λ r. ⌜ Puts (now (out .entry)) 0 9 (refusal-line number detail) r (now (out .exit)) ⌝ }
 {
-    let after_number = put_field(out, 0, 2, number);
+    let after_number = put_field(out, 0, 2, number as usize);
     let after_detail = put_field(out, after_number, 6, detail);
     put_line_feed(out, after_detail)
 }
@@ -164,10 +179,7 @@ fn both_set(n: Field, threshold: Field) -> Settings
 fn read_settings(input: &[u8]) -> Settings
     ensures { λ r. ⌜ r ≡ settings-of (now (input .entry)) ⌝ }
 {
-    if input.len() < 8 {
-        return Settings::Malformed;
-    }
-    if input[7] != 10 {
+    if input.len() < 8 || input[7] != columns::LINE_FEED {
         return Settings::Malformed;
     }
     let n = columns::read_field(&input[..3]);
@@ -195,7 +207,7 @@ fn print_refusal(refusal: Refusal, out: &mut [u8]) -> usize
     requires { ⌜ 9 ≤ length (now out) ⌝ }
     ensures { λ r. ⌜ Puts (now (out .entry)) 0 9 (refusal-line (refusal .number) (refusal .detail)) r (now (out .exit)) ⌝ }
 {
-    refuse(out, refusal.number as usize, refusal.detail)
+    refuse(out, refusal.number, refusal.detail)
 }
 
 fn find_and_print(
@@ -206,7 +218,7 @@ fn find_and_print(
     list: &mut [u16; LIST],
     out: &mut [u8; OUT],
 ) -> usize
-    ensures { λ r. ⌜ PrintsFind (memory store (now (events .entry)) (now (ends .entry))) threshold (now (list .entry)) (now (out .entry))
+    ensures { λ r. ⌜ PrintsFind (lent store (events .entry) (ends .entry)) threshold (now (list .entry)) (now (out .entry))
         r (now (list .exit)) (now (out .exit)) ⌝ }
 {
     match discovery::find(store, events, ends, threshold, list) {
@@ -215,20 +227,20 @@ fn find_and_print(
     }
 }
 
-// The log is read onto an empty one.
+// The log is read into an empty store.
 fn read_and_print(
     store: Store,
     threshold: u32,
     log: &[u8],
-    events: &mut [u8; EVENTS],
-    ends: &mut [u32; ENDS],
+    events: &mut [u8; LENT_EVENTS],
+    ends: &mut [u32; LENT_ENDS],
     list: &mut [u16; LIST],
     out: &mut [u8; OUT],
 ) -> usize
-    requires { ⌜ (1 ≤ store .activities) × (store .activities ≤ 32) × (store .traces ≡ 0) ⌝ }
-    ensures { λ r. ⌜ Prints (log-checks (onto-empty (store .activities)) (now (log .entry))) (checks-of-log (store .activities) threshold (now (log .entry)))
-        (store .activities) threshold
-        (now (log .entry)) (now (events .entry)) (now (ends .entry)) (now (list .entry)) (now (out .entry))
+    requires { ⌜ (declarable (store .activities) ≡ true) × (store .traces ≡ 0) ⌝ }
+    ensures { λ r. ⌜ Prints (log-checks (room-lent (store .activities)) (now (log .entry)))
+        (question-of (store .activities) threshold (now (log .entry)))
+        (now (events .entry)) (now (ends .entry)) (now (list .entry)) (now (out .entry))
         r (now (events .exit)) (now (ends .exit)) (now (list .exit)) (now (out .exit)) ⌝ }
 {
     let result = columns::read(store, events, ends, log);
@@ -244,22 +256,19 @@ fn check_threshold_and_print(
     store: Store,
     threshold: u32,
     log: &[u8],
-    events: &mut [u8; EVENTS],
-    ends: &mut [u32; ENDS],
+    events: &mut [u8; LENT_EVENTS],
+    ends: &mut [u32; LENT_ENDS],
     list: &mut [u16; LIST],
     out: &mut [u8; OUT],
 ) -> usize
-    requires { ⌜ (1 ≤ store .activities) × (store .activities ≤ 32) × (store .traces ≡ 0) ⌝ }
-    ensures { λ r. ⌜ Prints (threshold-check threshold ∷ log-checks (onto-empty (store .activities)) (now (log .entry))) (threshold-check threshold ∷ checks-of-log (store .activities) threshold (now (log .entry)))
-        (store .activities) threshold
-        (now (log .entry)) (now (events .entry)) (now (ends .entry)) (now (list .entry)) (now (out .entry))
+    requires { ⌜ (declarable (store .activities) ≡ true) × (store .traces ≡ 0) ⌝ }
+    ensures { λ r. ⌜ Prints (threshold-check threshold ∷ log-checks (room-lent (store .activities)) (now (log .entry)))
+        (question-of (store .activities) threshold (now (log .entry)))
+        (now (events .entry)) (now (ends .entry)) (now (list .entry)) (now (out .entry))
         r (now (events .exit)) (now (ends .exit)) (now (list .exit)) (now (out .exit)) ⌝ }
 {
-    if threshold < 1 {
-        return refuse(out, 3, 0);
-    }
-    if 1000 < threshold {
-        return refuse(out, 3, 0);
+    if !discovery::in_range(threshold) {
+        return refuse(out, discovery::THRESHOLD_OUT_OF_RANGE, 0);
     }
     read_and_print(store, threshold, log, events, ends, list, out)
 }
@@ -268,14 +277,14 @@ fn open_and_print(
     n: u32,
     threshold: u32,
     log: &[u8],
-    events: &mut [u8; EVENTS],
-    ends: &mut [u32; ENDS],
+    events: &mut [u8; LENT_EVENTS],
+    ends: &mut [u32; LENT_ENDS],
     list: &mut [u16; LIST],
     out: &mut [u8; OUT],
 ) -> usize
-    ensures { λ r. ⌜ Prints (open-checks n ++ threshold-check threshold ∷ log-checks (onto-empty n) (now (log .entry))) (checks-of-set n threshold (now (log .entry)))
-        n threshold
-        (now (log .entry)) (now (events .entry)) (now (ends .entry)) (now (list .entry)) (now (out .entry))
+    ensures { λ r. ⌜ Prints (open-checks n ++ threshold-check threshold ∷ log-checks (room-lent n) (now (log .entry)))
+        (question-of n threshold (now (log .entry)))
+        (now (events .entry)) (now (ends .entry)) (now (list .entry)) (now (out .entry))
         r (now (events .exit)) (now (ends .exit)) (now (list .exit)) (now (out .exit)) ⌝ }
 {
     match eventlog::open(n) {
@@ -295,16 +304,16 @@ fn open_and_print(
 // What findrules prints for its input, into out; how many bytes that is.
 pub fn report(
     input: &[u8],
-    events: &mut [u8; EVENTS],
-    ends: &mut [u32; ENDS],
+    events: &mut [u8; LENT_EVENTS],
+    ends: &mut [u32; LENT_ENDS],
     list: &mut [u16; LIST],
     out: &mut [u8; OUT],
 ) -> usize
     ensures { λ r. ⌜ Reports (now (input .entry)) (now (events .entry)) (now (ends .entry)) (now (list .entry)) (now (out .entry))
         r (now (events .exit)) (now (ends .exit)) (now (list .exit)) (now (out .exit)) ⌝ }
 {
-    if 65536 < input.len() {
-        return refuse(out, 12, 0);
+    if MOST_INPUT < input.len() {
+        return refuse(out, TOO_MUCH_INPUT, 0);
     }
     match read_settings(input) {
         Settings::Set(n, threshold) => open_and_print(
@@ -316,6 +325,6 @@ pub fn report(
             list,
             out,
         ),
-        Settings::Malformed => refuse(out, 4, 0),
+        Settings::Malformed => refuse(out, columns::MALFORMED, 0),
     }
 }

@@ -2,7 +2,7 @@
 -- Assumes nothing.
 use borrow.Author.Needs.{needs}
 use denote.Ref.{now}
-use Rattle.capi.specs.Numbers.{memory-of}
+use Rattle.capi.specs.Numbers.{lent-numbers}
 use Rattle.capi.proofs.Called.{add-called}
 use Rattle.capi.proofs.budgieleaf_add.Statement.{statement}
 use Rattle.capi.proofs.budgieleaf_add.Tie as tie
@@ -37,7 +37,7 @@ same-length-2 c = search needs
 returns : tie.Need-returns
 returns c =
     let a = c .before .before .before .before .before .before .before .before .before .before .before .before .before .before .before .before .before .before .before .args in
-    let m = memory-of (now (a .store)) (now (a .events)) (now (a .ends)) in
+    let m = lent-numbers (a .store) (a .events) (a .ends) in
     let calls = rw (c .before .before .before .before .before .before .before .before .before .before .before .before .before .before .store-in .ensures) at (c .before .before .before .before .before .before .before .before .before .before .before .add .ensures) in
     add-called m (now (a .trace)) (c .before .before .before .before .before .before .before .before .before .before .before .add .result) _ _ _ _ _ calls (c .before .before .before .before .put-store .ensures)
     (rw (c .before .before .enum-told .given .1)) (rw (c .before .before .enum-told .given .1) (c .put-answer .ensures))
@@ -51,7 +51,7 @@ same-length-4 c = search needs
 returns-2 : tie.Need-returns-2
 returns-2 c =
     let a = c .before .before .before .before .before .before .before .before .before .before .before .before .before .before .before .before .before .before .before .before .args in
-    let m = memory-of (now (a .store)) (now (a .events)) (now (a .ends)) in
+    let m = lent-numbers (a .store) (a .events) (a .ends) in
     let calls = rw (c .before .before .before .before .before .before .before .before .before .before .before .before .before .before .before .store-in .ensures) at (c .before .before .before .before .before .before .before .before .before .before .before .before .add .ensures) in
     add-called m (now (a .trace)) (c .before .before .before .before .before .before .before .before .before .before .before .before .add .result) _ _ _ _ _ calls (c .before .before .before .before .before .put-store .ensures)
     (rw (c .before .before .before .said .given .1) (c .put-refusal .ensures .0)) (rw (c .before .before .before .said .given .1) (c .put-refusal .ensures .1))

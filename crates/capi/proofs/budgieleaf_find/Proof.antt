@@ -2,7 +2,7 @@
 -- Assumes nothing.
 use borrow.Author.Needs.{needs}
 use denote.Ref.{now}
-use Rattle.capi.specs.Numbers.{memory-of}
+use Rattle.capi.specs.Numbers.{lent-numbers}
 use Rattle.capi.proofs.Called.{find-called}
 use Rattle.capi.proofs.budgieleaf_find.Statement.{statement}
 use Rattle.capi.proofs.budgieleaf_find.Tie as tie
@@ -42,7 +42,7 @@ returns c =
     let a = c .before .before .before .before .before .before .before .before .before .before .before .before .before .before .before .before .args in
     let found = c .before .before .before .before .before .before .found .given in
     let calls = rw (c .before .before .before .before .before .before .before .before .before .before .before .before .store-in .ensures) at (c .before .before .before .before .before .before .before .before .before .before .find .ensures) in
-    find-called (memory-of (now (a .store)) (now (a .events)) (now (a .ends))) (a .threshold) (now (a .list)) (c .before .before .before .before .before .before .before .before .before .before .find .result) _ _ _ calls
+    find-called (lent-numbers (a .store) (a .events) (a .ends)) (a .threshold) (now (a .list)) (c .before .before .before .before .before .before .before .before .before .before .find .result) _ _ _ calls
     (rw (found .1)) (rw (found .1) (c .put-answer .ensures))
 
 same-length-2 : tie.Need-same-length-2
@@ -53,7 +53,7 @@ returns-2 c =
     let a = c .before .before .before .before .before .before .before .before .before .before .before .before .before .args in
     let refusal = c .before .before .before .refusal .given in
     let calls = rw (c .before .before .before .before .before .before .before .before .before .store-in .ensures) at (c .before .before .before .before .before .before .before .find .ensures) in
-    find-called (memory-of (now (a .store)) (now (a .events)) (now (a .ends))) (a .threshold) (now (a .list)) (c .before .before .before .before .before .before .before .find .result) _ _ _ calls
+    find-called (lent-numbers (a .store) (a .events) (a .ends)) (a .threshold) (now (a .list)) (c .before .before .before .before .before .before .before .find .result) _ _ _ calls
     (rw (refusal .1) (c .put-refusal .ensures .0)) (rw (refusal .1) (c .put-refusal .ensures .1))
 
 pub budgieleaf-find-spec : {M : Type 1} → statement M

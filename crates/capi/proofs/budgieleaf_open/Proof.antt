@@ -25,13 +25,13 @@ returns : tie.Need-returns
 returns c =
     let a = c .before .before .before .before .before .before .args in
     let opened = c .before .before .before .opened .given in
-    rw (c .put-store .ensures) (open-called (a .n) (opened .0 .0) (now (a .store)) (rw (opened .1) at (c .before .before .before .before .before .open .ensures)))
+    rw (c .put-store .ensures) (open-called (a .n) (now (a .store)) (opened .0 .0) (rw (opened .1) at (c .before .before .before .before .before .open .ensures)))
 
 returns-2 : tie.Need-returns-2
 returns-2 c =
     let a = c .before .before .before .before .before .args in
     let refusal = c .before .before .refusal .given in
-    open-refused (a .n) (refusal .0 .0) (now (a .store)) (rw (refusal .1) at (c .before .before .before .before .open .ensures))
+    open-refused (a .n) (now (a .store)) (refusal .0 .0) (rw (refusal .1) at (c .before .before .before .before .open .ensures))
 
 pub budgieleaf-open-spec : {M : Type 1} → statement M
 budgieleaf-open-spec =

@@ -3,6 +3,8 @@
 use mathlib.Core.Path.{_≡_, sym, _∙_}
 use borrow.Author.Tests.{lt-ltb, le-ltb, le-leb, lt-leb, eq-eqb, ne-eqb}
 use borrow.Author.Needs.{needs}
+use Rattle.base.specs.Logic.{if_then_else_}
+use Rattle.columns.specs.Survey.{unplaced-of, fault-of}
 use Rattle.columns.proofs.fault.Statement.{statement}
 use Rattle.columns.proofs.fault.Tie as tie
 
@@ -22,19 +24,27 @@ returns-4 : tie.Need-returns-4
 returns-4 c =
     simp (le-ltb _ _ (c .before .before .before .before .before .before .before .if1 .left), lt-leb _ _ (c .before .before .before .before .before .if2 .left), eq-eqb _ _ (c .before .before .before .if3 .taken), ne-eqb _ _ (c .before .if4 .left)) (c .unplaced .ensures)
 
+add-is-full : tie.Need-add-is-full
+add-is-full c = search needs
+
 is-full-requires : tie.Need-is-full-requires
 is-full-requires c κs = search needs
 
+-- what the tests before that of the room say
+not-going : (c : tie.After-is-full) →
+    let args = c .before .before .before .before .before .before .before .before .before .args in
+    fault-of (args .room) (args .p) (args .number) (args .activity) ≡ (if c .is-full .result then 8 else unplaced-of (args .room) (args .p))
+not-going c =
+    simp (le-ltb _ _ (c .before .before .before .before .before .before .before .if1 .left), lt-leb _ _ (c .before .before .before .before .before .if2 .left), ne-eqb _ _ (c .before .before .before .if3 .left), ← c .is-full .ensures)
+
 returns-5 : tie.Need-returns-5
-returns-5 c =
-    simp (le-ltb _ _ (c .before .before .before .before .before .before .if1 .left), lt-leb _ _ (c .before .before .before .before .if2 .left), ne-eqb _ _ (c .before .before .if3 .left), sym (c .before .is-full .ensures) ∙ c .if5 .taken)
+returns-5 c = sym (not-going (c .before) ∙ rw (c .if5 .taken))
 
 unplaced-requires-2 : tie.Need-unplaced-requires-2
 unplaced-requires-2 c κs = search needs
 
 returns-6 : tie.Need-returns-6
-returns-6 c =
-    simp (le-ltb _ _ (c .before .before .before .before .before .before .before .if1 .left), lt-leb _ _ (c .before .before .before .before .before .if2 .left), ne-eqb _ _ (c .before .before .before .if3 .left), sym (c .before .before .is-full .ensures) ∙ c .before .if5 .left) (c .unplaced2 .ensures)
+returns-6 c = c .unplaced2 .ensures ∙ sym (not-going (c .before .before) ∙ rw (c .before .if5 .left))
 
 pub fault-spec : {M : Type 1} → statement M
 fault-spec =
@@ -45,6 +55,7 @@ fault-spec =
     returns-3
     unplaced-requires
     returns-4
+    add-is-full
     is-full-requires
     returns-5
     unplaced-requires-2

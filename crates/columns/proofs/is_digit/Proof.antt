@@ -5,10 +5,10 @@ use Rattle.columns.proofs.is_digit.Statement.{statement}
 use Rattle.columns.proofs.is_digit.Tie as tie
 
 returns : tie.Need-returns
-returns c = simp (lt-leb 48 _ (c .if1 .taken))
+returns c = simp (le-leb _ _ (c .if1 .taken))
 
 returns-2 : tie.Need-returns-2
-returns-2 c = simp (le-leb 48 _ (c .if1 .left))
+returns-2 c = simp (lt-leb _ _ (c .if1 .left))
 
 pub is-digit-spec : {M : Type 1} → statement M
 is-digit-spec = tie.close (tie.spec returns returns-2)

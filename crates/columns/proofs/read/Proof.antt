@@ -1,7 +1,7 @@
 -- `read` meets its contract, in each case by what the answer was.
 -- Assumes nothing.
 use Rattle.eventlog.specs.Store.{Memory, memory}
-use Rattle.columns.proofs.Reading.{reads-refused, reads-added}
+use Rattle.columns.proofs.ReadContract.{reads-refused, reads-added}
 use borrow.Author.Needs.{needs}
 use Rattle.columns.proofs.read.Statement.{statement}
 use Rattle.columns.proofs.read.Tie as tie
@@ -45,7 +45,7 @@ returns-2 : tie.Need-returns-2
 returns-2 c =
     let s = c .before .before .before .before .before .before .before .before .before .before .before .before .before .before .before .before in
     let told = c .before .before .before .before .before .before .before .before in
-    reads-added (old s) (s .args .log .now) _ _ _ _ (rw (told .answer2 .given .1) at (told .before .before .answer .ensures)) (c .before .before .before .before .append .ensures)
+    reads-added (old s) (s .args .log .now) _ _ (rw (told .answer2 .given .1) at (told .before .before .answer .ensures)) (c .before .before .before .before .append .ensures)
 
 pub read-spec : {M : Type 1} → statement M
 read-spec =

@@ -7,20 +7,24 @@ use borrow.Author.Needs.{needs}
 use lib.ListN.{length, take, drop}
 use Rattle.columns.specs.declared.Step.{Step}
 use Rattle.columns.specs.Log.{line-of, lines}
-use Rattle.columns.specs.Survey.{Within, entry-of, step-of, survey-of}
-use Rattle.columns.proofs.Passes.{within-step, survey-on, survey-stops, survey-ends}
+use Rattle.columns.specs.Survey.{Bounded, at-start, entry-of, step-of, survey-of}
+use Rattle.columns.proofs.LineSteps.{bounded-step, survey-on, survey-stops, survey-ends}
 use Rattle.columns.proofs.survey.Statement.{statement}
 use Rattle.columns.proofs.survey.Tie as tie
 
 abbrev Inv-loop : tie.InvT-loop
-Inv-loop limits log p₀ at₀ place₀ p at place =
-    Within limits p × (place ≤ at + 1) × (survey-of limits p place (lines (drop at log)) ≡ survey-of limits p₀ 1 (lines log))
+Inv-loop space log p₀ at₀ place₀ p at place =
+    Bounded space p × (place ≤ at + 1)
+    × (survey-of space p place (lines (drop at log)) ≡ survey-of space (at-start space) 1 (lines log))
 
 abbrev μ-loop : tie.MeasureT-loop
-μ-loop limits log p₀ at₀ place₀ p at place = length log - at
+μ-loop space log p₀ at₀ place₀ p at place = length log - at
 
 loop-holds : tie.Need-loop-holds Inv-loop μ-loop
-loop-holds c = (c .before .pre, omega arith, refl)
+loop-holds c = rw (c .start .ensures) (c .before .before .pre, omega arith, refl)
+
+start-requires : tie.Need-start-requires Inv-loop μ-loop
+start-requires c κs = search needs
 
 line-at-requires : tie.Need-line-at-requires Inv-loop μ-loop
 line-at-requires c κs = c .loop-test .taken
@@ -36,12 +40,12 @@ enum-known-number c = search needs
 
 returns : tie.Need-returns Inv-loop μ-loop
 returns c =
-    let log = c .before .before .before .before .before .before .before .before .args .log .now in
-    let limits = c .before .before .before .before .before .before .before .before .args .limits in
+    let log = c .before .before .before .before .before .before .before .before .before .args .log .now in
+    let space = c .before .before .before .before .before .before .before .before .before .args .room in
     let at = c .before .before .before .before .before .before .loop in
-    let stops : step-of limits (at .p) (entry-of (line-of (take 10 (drop (at .at) log)))) ≡ Step.Fault (c .before .number .given .0 .0) =
-    ap (step-of limits (at .p)) (sym (c .before .before .before .before .line-at .ensures)) ∙ sym (c .before .before .before .take-line .ensures) ∙ c .before .number .given .1 in
-    sym (survey-stops limits (at .p) (at .place) log (at .at) (c .before .before .before .before .before .loop-test .taken) _ stops) ∙ at .inv .2
+    let stops : step-of space (at .p) (entry-of (line-of (take 10 (drop (at .at) log)))) ≡ Step.Fault (c .before .number .given .0 .0) =
+    ap (step-of space (at .p)) (sym (c .before .before .before .before .line-at .ensures)) ∙ sym (c .before .before .before .take-line .ensures) ∙ c .before .number .given .1 in
+    sym (survey-stops space (at .p) (at .place) log (at .at) (c .before .before .before .before .before .loop-test .taken) _ stops) ∙ at .inv .2
 
 add-at : tie.Need-add-at Inv-loop μ-loop
 add-at c = omega (arith, c .before .before .before .before .before .loop-test .taken)
@@ -54,22 +58,22 @@ loop-less c = omega (arith, c .before .before .before .before .before .loop-test
 
 loop-again : tie.Need-loop-again Inv-loop μ-loop
 loop-again c =
-    let log = c .before .before .before .before .before .before .before .before .args .log .now in
-    let limits = c .before .before .before .before .before .before .before .before .args .limits in
+    let log = c .before .before .before .before .before .before .before .before .before .args .log .now in
+    let space = c .before .before .before .before .before .before .before .before .before .args .room in
     let at = c .before .before .before .before .before .before .loop in
-    let on : step-of limits (at .p) (entry-of (line-of (take 10 (drop (at .at) log)))) ≡ Step.Next (c .before .q .given .0 .0) =
-    ap (step-of limits (at .p)) (sym (c .before .before .before .before .line-at .ensures)) ∙ sym (c .before .before .before .take-line .ensures) ∙ c .before .q .given .1 in (
-      within-step limits (at .p) (at .inv .0) (entry-of (line-of (take 10 (drop (at .at) log)))) _ on,
+    let on : step-of space (at .p) (entry-of (line-of (take 10 (drop (at .at) log)))) ≡ Step.Next (c .before .q .given .0 .0) =
+    ap (step-of space (at .p)) (sym (c .before .before .before .before .line-at .ensures)) ∙ sym (c .before .before .before .take-line .ensures) ∙ c .before .q .given .1 in (
+      bounded-step space (at .p) (at .inv .0) (entry-of (line-of (take 10 (drop (at .at) log)))) _ on,
       omega (arith, at .inv .1),
-      sym (survey-on limits (at .p) (at .place) log (at .at) (c .before .before .before .before .before .loop-test .taken) _ on) ∙ at .inv .2,
+      sym (survey-on space (at .p) (at .place) log (at .at) (c .before .before .before .before .before .loop-test .taken) _ on) ∙ at .inv .2,
     )
 
 returns-2 : tie.Need-returns-2 Inv-loop μ-loop
 returns-2 c =
-    let log = c .before .before .before .args .log .now in
-    let limits = c .before .before .before .args .limits in
+    let log = c .before .before .before .before .args .log .now in
+    let space = c .before .before .before .before .args .room in
     let at = c .before .loop in
-    sym (survey-ends limits (at .p) (at .place) log (at .at) (c .loop-test .left)) ∙ at .inv .2
+    sym (survey-ends space (at .p) (at .place) log (at .at) (c .loop-test .left)) ∙ at .inv .2
 
 pub survey-spec : {M : Type 1} → statement M
 survey-spec =
@@ -77,6 +81,7 @@ survey-spec =
     (tie.spec
     Inv-loop
     μ-loop
+    start-requires
     loop-holds
     line-at-requires
     take-line-requires

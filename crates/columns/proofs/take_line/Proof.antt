@@ -1,10 +1,10 @@
 -- `take_line` meets its contract. A line without a fault leaves the numbers in bounds.
 -- Assumes nothing.
-use mathlib.Core.Path.{_≡_, sym, ap, _∙_}
+use mathlib.Core.Path.{sym, ap, _∙_}
 use native.Mathlib.Omega.{arith}
 use borrow.Author.Tests.{eq-eqb, ne-eqb}
 use Rattle.columns.specs.declared.Step.{Step}
-use Rattle.columns.proofs.Passes.{Passed, passed}
+use Rattle.columns.proofs.LineSteps.{faultless}
 use borrow.Author.Needs.{needs}
 use Rattle.columns.proofs.take_line.Statement.{statement}
 use Rattle.columns.proofs.take_line.Tie as tie
@@ -21,9 +21,9 @@ fault-requires c κs = search needs
 next-requires : tie.Need-next-requires
 next-requires c κs =
     let w = c .before .before .before .before .before .pre in
-    let limits = c .before .before .before .before .before .args .limits in
+    let space = c .before .before .before .before .before .args .room in
     let p = c .before .before .before .before .before .args .p in
-    let found = passed limits p w _ _ (sym (c .before .fault .ensures) ∙ c .if1 .taken) in
+    let found = faultless space p w _ _ (sym (c .before .fault .ensures) ∙ c .if1 .taken) in
     (omega (arith, w .few), omega (arith, w .few, w .in-reach), found .goes-on)
 
 returns : tie.Need-returns

@@ -4,8 +4,7 @@ use mathlib.Core.Path.{_∙_, refl, sym}
 use mathlib.Core.Bool.{_||_}
 use mathlib.Core.Logic.{⊎-elim}
 use native.Mathlib.Omega.{arith}
-use Rattle.declare.specs.Logic.{_or_}
-use Rattle.declare.proofs.Bools.{agree, by-cases}
+use Rattle.base.proofs.Bools.{agree, by-cases}
 use Rattle.declare.proofs.Ranges.{inside, below, above, unnamed}
 use Rattle.declare.proofs.activated.Statement.{statement}
 use Rattle.declare.proofs.activated.Tie as tie
@@ -28,7 +27,7 @@ unfolding agree
 returns-4 c =
     let x = c .before .before .before .args in
     let n = x .template in
-    by-cases 2 (λ p q. p || q) (λ p q. p or q) refl (x .a-occurs) (x .b-occurs)
+    by-cases 2 (λ p q. p || q) (λ p q. p || q) refl (x .a-occurs) (x .b-occurs)
     ∙ ⊎-elim
     (λ w.
     simp (

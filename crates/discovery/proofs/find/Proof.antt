@@ -3,58 +3,75 @@
 use mathlib.Core.Path.{_≡_, refl, sym, _∙_}
 use mathlib.Core.Bool.{true}
 use borrow.Author.Needs.{needs}
-use borrow.Author.Tests.{not-true, not-false, le-leb, lt-leb}
+use borrow.Author.Tests.{not-true, not-false}
 use Rattle.eventlog.specs.Store.{Memory, memory, sound}
 use Rattle.eventlog.proofs.Laws.{kept-length}
-use Rattle.discovery.proofs.Finding.{enough-told, short-told, finds-refused, finds-short, finds-listed}
+use Rattle.discovery.specs.Calls.{in-range}
+use Rattle.discovery.proofs.FindContract.{fits-told, short-told, finds-refused, finds-short, finds-listed}
 use Rattle.discovery.proofs.find.Statement.{statement}
 use Rattle.discovery.proofs.find.Tie as tie
 
 abbrev memory-at : tie.Start → Memory
-memory-at c = memory (c .args .store) (c .args .events .now) (c .args .ends .now)
+memory-at s = memory (s .args .store) (s .args .events .now) (s .args .ends .now)
 
 is-sound-here : (c : tie.Else1) → sound (memory-at (c .before .before .before .before .before)) ≡ true
 is-sound-here c = sym (c .before .is-sound .ensures) ∙ not-false _ (c .if1 .left)
 
+in-range-here : (c : tie.Else2) → in-range (c .before .before .before .before .before .before .before .args .threshold) ≡ true
+in-range-here c = sym (c .before .in-range .ensures) ∙ not-false _ (c .if2 .left)
+
 is-sound-requires : tie.Need-is-sound-requires
 is-sound-requires c κs = search needs
 
+refused-requires : tie.Need-refused-requires
+refused-requires c κs = search needs
+
 returns : tie.Need-returns
 returns c =
-    let unsound = sym (c .before .is-sound .ensures) ∙ not-true _ (c .if1 .taken) in
-    finds-refused _ _ _ 1 0 (simp unsound)
+    let unsound = sym (c .before .before .is-sound .ensures) ∙ not-true _ (c .before .if1 .taken) in
+    rw (c .refused .ensures) (finds-refused _ _ _ 1 0 (simp unsound))
+
+in-range-requires : tie.Need-in-range-requires
+in-range-requires c κs = search needs
+
+refused-requires-2 : tie.Need-refused-requires-2
+refused-requires-2 c κs = search needs
 
 returns-2 : tie.Need-returns-2
-returns-2 c = finds-refused _ _ _ 3 0 (simp (is-sound-here (c .before), lt-leb _ _ (c .if2 .taken)))
+returns-2 c =
+    let tested = c .before .before in
+    let outside = sym (tested .in-range .ensures) ∙ not-true _ (c .before .if2 .taken) in
+    rw (c .refused2 .ensures) (finds-refused _ _ _ 3 0 (simp (is-sound-here (tested .before), outside)))
+
+refused-requires-3 : tie.Need-refused-requires-3
+refused-requires-3 c κs = search needs
 
 returns-3 : tie.Need-returns-3
 returns-3 c =
-    finds-refused _ _ _ 3 0 (simp (is-sound-here (c .before .before), le-leb _ _ (c .before .if2 .left), lt-leb _ _ (c .if3 .taken)))
-
-returns-4 : tie.Need-returns-4
-returns-4 c =
-    let h = is-sound-here (c .before .before .before) in
-    finds-refused _ _ _ 11 0
-    (simp (h, le-leb _ _ (c .before .before .if2 .left), le-leb _ _ (c .before .if3 .left), kept-length _ h, c .if4 .taken))
+    let e = c .before .before in
+    let h = is-sound-here (e .before .before) in
+    rw (c .refused3 .ensures) (finds-refused _ _ _ 11 0 (simp (h, in-range-here e, kept-length _ h, c .before .if3 .taken)))
 
 look-requires : tie.Need-look-requires
 look-requires c κs = is-sound-here (c .before .before .before .before)
 
-enum-known-room : tie.Need-enum-known-room
-enum-known-room c = search needs
+enum-known-fit : tie.Need-enum-known-fit
+enum-known-fit c = search needs
+
+refused-requires-4 : tie.Need-refused-requires-4
+refused-requires-4 c κs = search needs
 
 same-length : tie.Need-same-length
 same-length c = search needs
 
-returns-5 : tie.Need-returns-5
-returns-5 c =
-    let l = c .before .before .before .before .before in
+returns-4 : tie.Need-returns-4
+returns-4 c =
+    let l = c .before .before .before .before .before .before in
     let e = l .before .before in
     let s = e .before .before .before .before .before .before .before .before in
-    let told = short-told _ (s .args .list .now) _ (sym (l .look .ensures .0) ∙ c .before .room .given .1) in
-    rw (l .look .ensures .1)
-    (finds-short (memory-at s) _ _ (is-sound-here (e .before .before .before))
-    (e .before .before .if2 .left) (e .before .if3 .left) (e .if4 .left) _ (told .0) (rw (told .0) (told .1)))
+    let told = short-told _ (s .args .list .now) _ (sym (l .look .ensures .0) ∙ c .before .before .fit .given .1) in
+    rw (c .refused4 .ensures, l .look .ensures .1)
+    (finds-short (memory-at s) _ _ (is-sound-here (e .before .before .before)) (in-range-here (e .before)) (e .if3 .left) _ (told .0) (rw (told .0) (told .1)))
 
 enum-told : tie.Need-enum-told
 enum-told c = search needs
@@ -65,14 +82,13 @@ pass-all-requires c κs = is-sound-here (c .before .before .before .before .befo
 same-length-2 : tie.Need-same-length-2
 same-length-2 c = search needs
 
-returns-6 : tie.Need-returns-6
-returns-6 c =
+returns-5 : tie.Need-returns-5
+returns-5 c =
     let l = c .before .before .before .before .before .before .before .before in
     let e = l .before .before in
     let s = e .before .before .before .before .before .before .before .before in
-    let fits = enough-told _ (s .args .list .now) (sym (l .look .ensures .0) ∙ c .before .before .before .before .enum-told .given .1) in
-    finds-listed (memory-at s) _ _ (is-sound-here (e .before .before .before))
-    (e .before .before .if2 .left) (e .before .if3 .left) (e .if4 .left) _ refl fits _ _
+    let fits = fits-told _ (s .args .list .now) (sym (l .look .ensures .0) ∙ c .before .before .before .before .enum-told .given .1) in
+    finds-listed (memory-at s) _ _ (is-sound-here (e .before .before .before)) (in-range-here (e .before)) (e .if3 .left) _ refl fits _ _
     (rw (l .look .ensures .1) at (c .before .before .pass-all .ensures))
 
 pub find-spec : {M : Type 1} → statement M
@@ -80,15 +96,19 @@ find-spec =
     tie.close
     (tie.spec
     is-sound-requires
+    refused-requires
     returns
+    in-range-requires
+    refused-requires-2
     returns-2
+    refused-requires-3
     returns-3
-    returns-4
     look-requires
-    enum-known-room
+    enum-known-fit
+    refused-requires-4
     same-length
-    returns-5
+    returns-4
     enum-told
     pass-all-requires
     same-length-2
-    returns-6)
+    returns-5)

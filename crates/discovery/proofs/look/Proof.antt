@@ -1,19 +1,18 @@
 -- `discovery::look` meets its contract: room for all constraints is enough; otherwise a pass that is lent no numbers of the slice tells
 -- what is needed, and leaves the slice as it was. Assumes nothing.
 use Prim.Native.Nat.{_*_, _≤_}
-use mathlib.Core.Path.{_≡_, refl}
+use mathlib.Core.Path.{_≡_, refl, ap, _∙_}
 use mathlib.Core.List.{[]}
 use native.Mathlib.Nat.{mul-le-mul}
 use native.Mathlib.Omega.{arith}
 use borrow.Author.Needs.{needs}
-use Rattle.eventlog.specs.Store.{Memory, memory, kept}
+use Rattle.eventlog.specs.Store.{memory}
 use Rattle.eventlog.proofs.Laws.{sound-facts}
-use Rattle.discovery.proofs.Finding.{passed-listed, passed-none, room-for-all, has-room, lacks-room}
+use Rattle.discovery.specs.Constraints.{asked}
+use Rattle.discovery.specs.Passes.{fit-of}
+use Rattle.discovery.proofs.FindContract.{passed-listed, passed-none, all-fit, list-fits, list-short}
 use Rattle.discovery.proofs.look.Statement.{statement}
 use Rattle.discovery.proofs.look.Tie as tie
-
-abbrev memory-at : tie.Start → Memory
-memory-at c = memory (c .args .store) (c .args .events .now) (c .args .ends .now)
 
 cast-n : tie.Need-cast-n
 cast-n c = search needs
@@ -38,7 +37,7 @@ add-if1 c = search needs
 returns : tie.Need-returns
 returns c =
     let s = c .before .before .before .before .before in
-    (room-for-all (s .args .store .activities) (s .args .threshold) (kept (memory-at s)) (s .args .list .now) (c .if1 .taken), refl)
+    (all-fit (asked (memory (s .args .store) (s .args .events .now) (s .args .ends .now)) (s .args .threshold)) (s .args .list .now) (c .if1 .taken), refl)
 
 sub-pass-all : tie.Need-sub-pass-all
 sub-pass-all c = search needs
@@ -63,13 +62,13 @@ same-length c = search needs
 
 -- the pass leaves the slice as it was
 nothing-written : (c : tie.After-pass-all) → c .pass-all .last .1 .1 .1 .1 .0 ≡ []
-nothing-written c = passed-none _ _ _ _ _ _ (c .pass-all .ensures) refl
+nothing-written c = passed-none _ _ _ _ (c .pass-all .ensures) refl
 
 returns-2 : tie.Need-returns-2
 returns-2 c =
     let p = c .before .before .before .before in
     let list = p .before .before .before .before .before .before .before .args .list .now in (
-      rw (← passed-listed _ _ _ _ _ _ (p .pass-all .ensures)) (lacks-room _ list (rw (nothing-written p) at (c .if2 .taken))),
+      list-short _ list (rw (nothing-written p) at (c .if2 .taken)) ∙ ap (λ k. fit-of k list) (passed-listed _ _ _ _ (p .pass-all .ensures)),
       rw (nothing-written p),
     )
 
@@ -80,7 +79,7 @@ returns-3 : tie.Need-returns-3
 returns-3 c =
     let p = c .before .before .before .before in
     let list = p .before .before .before .before .before .before .before .args .list .now in (
-      rw (← passed-listed _ _ _ _ _ _ (p .pass-all .ensures)) (has-room _ list (rw (nothing-written p) at (c .if2 .left))),
+      list-fits _ list (rw (nothing-written p) at (c .if2 .left)) ∙ ap (λ k. fit-of k list) (passed-listed _ _ _ _ (p .pass-all .ensures)),
       rw (nothing-written p),
     )
 

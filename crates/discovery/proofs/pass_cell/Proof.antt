@@ -21,7 +21,7 @@ returns c =
     rw (sym (taken .before .pairs .ensures) ∙ taken .if1 .taken) (c .before .before .consider .ensures)
 
 returns-2 : tie.Need-returns-2
-returns-2 c = rw (sym (c .before .pairs .ensures) ∙ c .if1 .left) (passes-none _ _ _ _)
+returns-2 c = rw (sym (c .before .pairs .ensures) ∙ c .if1 .left) (passes-none _ _ _)
 
 pub pass-cell-spec : {M : Type 1} → statement M
 pass-cell-spec = tie.close (tie.spec pairs-requires consider-requires same-length returns returns-2)

@@ -38,7 +38,7 @@ returns-2 : tie.Need-returns-2
 returns-2 c =
     let appended = c .before .before .before .before in
     let told = appended .before .before .before in
-    adds-added _ _ _ (told .before .before .add-answer .ensures) _ _ _ (told .enum-told2 .given .1) (appended .append .ensures)
+    adds-added _ _ _ (told .before .before .add-answer .ensures) _ (told .enum-told2 .given .1) (appended .append .ensures)
 
 pub add-spec : {M : Type 1} → statement M
 add-spec =

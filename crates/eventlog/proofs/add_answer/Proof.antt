@@ -4,10 +4,10 @@ use native.Mathlib.Omega.{arith}
 use mathlib.Core.Path.{_≡_, sym, ap, _∙_}
 use mathlib.Core.Bool.{true}
 use mathlib.Core.List.{List, []}
-use borrow.Author.Tests.{lt-ltb, le-ltb, eq-eqb, ne-eqb, not-true, not-false}
+use borrow.Author.Tests.{lt-ltb, le-ltb, not-true, not-false}
 use lib.ListN.{drop}
 use lib.Seq.{take-all}
-use Rattle.eventlog.specs.Checks.{Check, reply}
+use Rattle.base.specs.Checks.{Check, reply}
 use Rattle.eventlog.specs.Store.{Memory, memory, sound, last-end, all-below}
 use Rattle.eventlog.specs.Calls.{checks-of-add, add-said}
 use Rattle.eventlog.proofs.Adding.{some-place, found-place, declared-answers}
@@ -53,10 +53,12 @@ not-long c =
 
 -- past the check 8 too
 not-full :
-    (c : tie.Else5) →
+    (c : tie.Else4) →
     let checks = checks (start (c .before .before .before .before .before)) in
     reply checks [] ≡ reply (drop 4 checks) []
-not-full c = not-long (c .before .before) ∙ simp (ne-eqb _ _ (c .before .if4 .left), ne-eqb _ _ (c .if5 .left))
+not-full c =
+    let tested = c .before .is-full in
+    not-long (c .before .before) ∙ rw (sym (tested .ensures) ∙ c .if4 .left)
 
 is-sound-requires : tie.Need-is-sound-requires
 is-sound-requires c κs = search needs
@@ -110,27 +112,18 @@ returns-3 c =
     (ap add-said (c .refused3 .ensures)
     ∙ sym (simp (is-sound-yes (before .before .before), declared-yes before, lt-ltb _ _ (c .before .if3 .taken))))
 
+is-full-requires : tie.Need-is-full-requires
+is-full-requires c κs = search needs
+
 refused-requires-4 : tie.Need-refused-requires-4
 refused-requires-4 c κs = search needs
 
 returns-4 : tie.Need-returns-4
 returns-4 c =
-    let before = c .before .before in
-    declared-answers _ _ _ (declared-yes (before .before))
-    (ap add-said (c .refused4 .ensures) ∙ sym (not-long before ∙ simp (eq-eqb _ _ (c .before .if4 .taken))))
-
-cast-if5 : tie.Need-cast-if5
-cast-if5 c = search needs
-
-refused-requires-5 : tie.Need-refused-requires-5
-refused-requires-5 c κs = search needs
-
-returns-5 : tie.Need-returns-5
-returns-5 c =
-    let before = c .before .before in
-    declared-answers _ _ _ (declared-yes (before .before .before))
-    (ap add-said (c .refused5 .ensures)
-    ∙ sym (not-long (before .before) ∙ simp (ne-eqb _ _ (before .if4 .left), eq-eqb _ _ (c .before .if5 .taken))))
+    let tested = c .before .before in
+    declared-answers _ _ _ (declared-yes (tested .before .before))
+    (ap add-said (c .refused4 .ensures)
+    ∙ sym (not-long (tested .before) ∙ rw (sym (tested .is-full .ensures) ∙ c .before .if4 .taken)))
 
 last-end-requires : tie.Need-last-end-requires
 last-end-requires c κs = search needs
@@ -138,28 +131,28 @@ last-end-requires c κs = search needs
 cast-last : tie.Need-cast-last
 cast-last c = search needs
 
-sub-if6 : tie.Need-sub-if6
+sub-if5 : tie.Need-sub-if5
 unfolding last-end
-sub-if6 c = omega (arith, c .last-end .ensures, sound-facts _ (is-sound-yes (c .before .before .before .before .before .before)) .fits)
+sub-if5 c = omega (arith, c .last-end .ensures, sound-facts _ (is-sound-yes (c .before .before .before .before .before .before)) .fits)
 
-refused-requires-6 : tie.Need-refused-requires-6
-refused-requires-6 c κs = search needs
+refused-requires-5 : tie.Need-refused-requires-5
+refused-requires-5 c κs = search needs
+
+returns-5 : tie.Need-returns-5
+unfolding last-end
+returns-5 c =
+    let before = c .before .before in
+    declared-answers _ _ _ (declared-yes (before .before .before .before .before))
+    (ap add-said (c .refused5 .ensures)
+    ∙ sym (not-full (before .before) ∙ simp (← before .last-end .ensures, lt-ltb _ _ (room-short _ _ _ (c .before .if5 .taken)))))
 
 returns-6 : tie.Need-returns-6
 unfolding last-end
 returns-6 c =
-    let before = c .before .before in
-    declared-answers _ _ _ (declared-yes (before .before .before .before .before))
-    (ap add-said (c .refused6 .ensures)
-    ∙ sym (not-full (before .before) ∙ simp (← before .last-end .ensures, lt-ltb _ _ (room-short _ _ _ (c .before .if6 .taken)))))
-
-returns-7 : tie.Need-returns-7
-unfolding last-end
-returns-7 c =
     declared-answers _ _ _ (declared-yes (c .before .before .before .before .before))
     (sym
     (not-full (c .before .before)
-    ∙ simp (← c .before .last-end .ensures, le-ltb _ _ (room-enough _ _ _ (sub-if6 (c .before)) (c .if6 .left)))))
+    ∙ simp (← c .before .last-end .ensures, le-ltb _ _ (room-enough _ _ _ (sub-if5 (c .before)) (c .if5 .left)))))
 
 pub add-answer-spec : {M : Type 1} → statement M
 add-answer-spec =
@@ -175,14 +168,12 @@ add-answer-spec =
     cast-if3
     refused-requires-3
     returns-3
+    is-full-requires
     refused-requires-4
     returns-4
-    cast-if5
-    refused-requires-5
-    returns-5
     last-end-requires
     cast-last
-    sub-if6
-    refused-requires-6
-    returns-6
-    returns-7)
+    sub-if5
+    refused-requires-5
+    returns-5
+    returns-6)

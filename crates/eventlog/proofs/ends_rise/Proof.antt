@@ -2,7 +2,9 @@
 -- The measure is what is left of the length. Assumes nothing.
 use Prim.Native.Nat.{_≤_, _-_}
 use mathlib.Core.Path.{_≡_, sym, ap, _∙_}
+use mathlib.Core.Logic.{⊎-elim}
 use native.Mathlib.Omega.{arith}
+use borrow.Author.Tests.{ltb-true, ltb-false}
 use borrow.Author.Needs.{needs}
 use lib.ListN.{length, drop, drop-of-length-le}
 use Rattle.eventlog.specs.Store.{rising}
@@ -27,15 +29,13 @@ shared-slice-read-end c = search needs
 
 returns : tie.Need-returns Inv-loop μ-loop
 returns c =
+    let test = c .before .before in
     sym
-    (c .before .before .before .loop .inv .1
-    ∙ rising-stops-low _ _ _ (c .before .before .loop-test .taken) (c .if1 .taken))
-
-returns-2 : tie.Need-returns-2 Inv-loop μ-loop
-returns-2 c =
-    sym
-    (c .before .before .before .before .loop .inv .1
-    ∙ rising-stops-high _ _ _ (c .before .before .before .loop-test .taken) (omega arith))
+    (test .before .loop .inv .1
+    ∙ ⊎-elim
+    (λ low. rising-stops-low _ _ _ (test .loop-test .taken) (low .taken))
+    (λ high. rising-stops-high _ _ _ (test .loop-test .taken) (omega (arith, ltb-true)))
+    (c .if1 .came))
 
 add-i : tie.Need-add-i Inv-loop μ-loop
 add-i c = search needs
@@ -44,14 +44,15 @@ loop-less : tie.Need-loop-less Inv-loop μ-loop
 loop-less c = search needs
 
 loop-again : tie.Need-loop-again Inv-loop μ-loop
-loop-again c = (
-  search needs,
-  c .before .before .before .before .loop .inv .1
-      ∙ rising-goes-on _ _ _ (c .before .before .before .loop-test .taken) (c .before .if1 .left) (omega arith),
-)
+loop-again c =
+    let test = c .before .before .before in (
+      search needs,
+      test .before .loop .inv .1
+          ∙ rising-goes-on _ _ _ (test .loop-test .taken) (c .before .if1 .left) (omega (arith, ltb-false)),
+    )
 
-returns-3 : tie.Need-returns-3 Inv-loop μ-loop
-returns-3 c = sym (c .before .loop .inv .1 ∙ ap (rising _) (drop-of-length-le _ (c .loop-test .left)))
+returns-2 : tie.Need-returns-2 Inv-loop μ-loop
+returns-2 c = sym (c .before .loop .inv .1 ∙ ap (rising _) (drop-of-length-le _ (c .loop-test .left)))
 
 pub ends-rise-spec : {M : Type 1} → statement M
 ends-rise-spec =
@@ -63,8 +64,7 @@ ends-rise-spec =
     mul-end
     shared-slice-read-end
     returns
-    returns-2
     add-i
     loop-less
     loop-again
-    returns-3)
+    returns-2)

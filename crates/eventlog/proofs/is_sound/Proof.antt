@@ -1,83 +1,84 @@
 -- `eventlog::is_sound` meets its contract: each return from the tests that led there. Assumes nothing.
+use Prim.Native.Nat.{_≤_}
 use mathlib.Core.Path.{_≡_, sym, _∙_}
-use mathlib.Core.Bool.{Bool}
+use mathlib.Core.Logic.{⊎-elim}
+use mathlib.Core.Bool.{Bool, true, _&&_}
 use lib.Dec.{leb}
 use lib.ListN.{length, take}
-use Rattle.declare.specs.Logic.{_and_}
-use borrow.Author.Needs.{needs}
-use borrow.Author.Tests.{le-leb, lt-leb, not-true, not-false}
 use lib.Seq.{length-take-le}
-use Rattle.eventlog.specs.Store.{Memory, memory, sound, last-end, all-below}
+use borrow.Author.Needs.{needs}
+use borrow.Author.Tests.{le-leb, lt-leb, ltb-true, ltb-false, not-true, not-false}
+use Rattle.eventlog.specs.Store.{Memory, memory, declarable, sound, last-end, all-below}
 use Rattle.eventlog.proofs.Walks.{all-below-found}
 use Rattle.eventlog.proofs.is_sound.Statement.{statement}
 use Rattle.eventlog.proofs.is_sound.Tie as tie
 
--- the tests of the events
-abbrev events-sound : Memory → Bool
-events-sound m =
-    leb (last-end m) (length (m .events)) and all-below (m .store .activities) (take (last-end m) (m .events))
+declarable-requires : tie.Need-declarable-requires
+declarable-requires c κs = search needs
 
 returns : tie.Need-returns
 unfolding sound
-returns c = simp (lt-leb _ _ (c .if1 .taken))
+returns c =
+    let tested = c .before .declarable in
+    rw (sym (tested .ensures) ∙ not-true (tested .result) (c .if1 .taken))
 
-returns-2 : tie.Need-returns-2
-unfolding sound
-returns-2 c = simp (le-leb _ _ (c .before .if1 .left), lt-leb _ _ (c .if2 .taken))
+abbrev given : tie.Else1 → Memory
+given c =
+    let args = c .before .before .before .before .args in
+    memory (args .store) (args .events .now) (args .ends .now)
 
-returns-3 : tie.Need-returns-3
-unfolding sound
-returns-3 c =
-    simp (
-      le-leb _ _ (c .before .before .if1 .left),
-      le-leb _ _ (c .before .if2 .left),
-      lt-leb _ _ (c .if3 .taken),
-    )
+in-range : (c : tie.Else1) → declarable (given c .store .activities) ≡ true
+in-range c = sym (c .before .declarable .ensures) ∙ not-false (c .before .declarable .result) (c .if1 .left)
 
 cast-count : tie.Need-cast-count
 cast-count c = search needs
 
-returns-4 : tie.Need-returns-4
+returns-2 : tie.Need-returns-2
 unfolding sound
-returns-4 c =
-    simp (
-      le-leb _ _ (c .before .before .before .if1 .left),
-      le-leb _ _ (c .before .before .if2 .left),
-      le-leb _ _ (c .before .if3 .left),
-      lt-leb _ _ (c .if4 .taken),
-    )
+returns-2 c =
+    let m = given (c .before) in
+    ⊎-elim
+    (λ many. rw (in-range (c .before), lt-leb _ _ (many .taken)))
+    (λ few.
+    rw (
+      in-range (c .before),
+      le-leb _ _ (few .0 .left),
+      lt-leb _ _ (ltb-true (length (m .ends)) (m .store .traces) (few .1 .taken)),
+    ))
+    (c .if2 .came)
+
+has-ends : (c : tie.Else3) → let m = given (c .before .before) in m .store .traces ≤ length (m .ends)
+has-ends c = let m = given (c .before .before) in ltb-false (length (m .ends)) (m .store .traces) (c .if3 .left)
 
 slice-aggregate-ends-rise : tie.Need-slice-aggregate-ends-rise
-slice-aggregate-ends-rise c = sym (length-take-le _ _ (c .before .if4 .left))
+slice-aggregate-ends-rise c = sym (length-take-le _ _ (has-ends (c .before)))
 
 ends-rise-requires : tie.Need-ends-rise-requires
 ends-rise-requires c κs = search needs
 
-abbrev given : tie.Else4 → Memory
-given c =
-    let args = c .before .before .before .before .before .before .args in
-    memory (args .store) (args .events .now) (args .ends .now)
-
 -- what is left to test once the record is
+abbrev left-to-test : Bool → Memory → Bool
+left-to-test rises m =
+    rises && leb (last-end m) (length (m .events)) && all-below (m .store .activities) (take (last-end m) (m .events))
+
 tested :
     (c : tie.After-ends-rise) →
-    sound (given (c .before .before)) ≡ c .ends-rise .result and events-sound (given (c .before .before))
+    let m = given (c .before .before .before .before) in
+    sound m ≡ left-to-test (c .ends-rise .result) m
 unfolding sound
 tested c =
-    simp (
-      le-leb _ _ (c .before .before .before .before .before .if1 .left),
-      le-leb _ _ (c .before .before .before .before .if2 .left),
-      le-leb _ _ (c .before .before .before .if3 .left),
-      le-leb _ _ (c .before .before .if4 .left),
-      ← c .ends-rise .ensures,
-    )
+    let few = c .before .before .before in
+    simp (in-range (few .before), le-leb _ _ (few .if2 .left), le-leb _ _ (has-ends (c .before .before)), ← c .ends-rise .ensures)
 
-returns-5 : tie.Need-returns-5
-returns-5 c = sym (tested (c .before) ∙ rw (not-true (c .before .ends-rise .result) (c .if5 .taken)))
+returns-3 : tie.Need-returns-3
+returns-3 c = sym (tested (c .before) ∙ rw (not-true (c .before .ends-rise .result) (c .if4 .taken)))
 
 -- and once the ends are
-rising-ends : (c : tie.Else5) → sound (given (c .before .before .before)) ≡ events-sound (given (c .before .before .before))
-rising-ends c = tested (c .before) ∙ rw (not-false (c .before .ends-rise .result) (c .if5 .left))
+rising-ends :
+    (c : tie.Else4) →
+    let m = given (c .before .before .before .before .before) in
+    sound m ≡ left-to-test true m
+rising-ends c = tested (c .before) ∙ rw (not-false (c .before .ends-rise .result) (c .if4 .left))
 
 last-end-requires : tie.Need-last-end-requires
 last-end-requires c κs = search needs
@@ -85,40 +86,40 @@ last-end-requires c κs = search needs
 cast-last : tie.Need-cast-last
 cast-last c = search needs
 
-returns-6 : tie.Need-returns-6
+returns-4 : tie.Need-returns-4
 unfolding last-end
-returns-6 c = sym (rising-ends (c .before .before) ∙ simp (← c .before .last-end .ensures, lt-leb _ _ (c .if6 .taken)))
+returns-4 c = sym (rising-ends (c .before .before) ∙ simp (← c .before .last-end .ensures, lt-leb _ _ (c .if5 .taken)))
 
 slice-aggregate-declared-front : tie.Need-slice-aggregate-declared-front
-slice-aggregate-declared-front c = sym (length-take-le _ _ (c .before .if6 .left))
+slice-aggregate-declared-front c = sym (length-take-le _ _ (c .before .if5 .left))
 
 declared-front-requires : tie.Need-declared-front-requires
 declared-front-requires c κs = search needs
 
-returns-7 : tie.Need-returns-7
+returns-5 : tie.Need-returns-5
 unfolding last-end
-returns-7 c =
+returns-5 c =
     let found = c .declared-front .ensures in
+    let fits = c .before .before .if5 .left in
     sym
     (rising-ends (c .before .before .before .before)
-    ∙ simp (← c .before .before .before .last-end .ensures, le-leb _ _ (c .before .before .if6 .left))
-    (all-below-found _ _ _ _ (length-take-le _ _ (c .before .before .if6 .left)) (found .0) (found .1 .0) (found .1 .1)))
+    ∙ simp (← c .before .before .before .last-end .ensures, le-leb _ _ fits)
+    (all-below-found _ _ _ _ (length-take-le _ _ fits) (found .0) (found .1 .0) (found .1 .1)))
 
 pub is-sound-spec : {M : Type 1} → statement M
 is-sound-spec =
     tie.close
     (tie.spec
+    declarable-requires
     returns
-    returns-2
-    returns-3
     cast-count
-    returns-4
+    returns-2
     slice-aggregate-ends-rise
     ends-rise-requires
-    returns-5
+    returns-3
     last-end-requires
     cast-last
-    returns-6
+    returns-4
     slice-aggregate-declared-front
     declared-front-requires
-    returns-7)
+    returns-5)

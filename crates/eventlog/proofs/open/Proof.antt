@@ -1,16 +1,22 @@
--- `eventlog::open` meets its contract: each return from the tests that led there. Assumes nothing.
-use borrow.Author.Tests.{le-leb, lt-leb}
+-- `eventlog::open` meets its contract: the test decides. Assumes nothing.
+use mathlib.Core.Path.{sym, _∙_}
+use borrow.Author.Needs.{needs}
+use borrow.Author.Tests.{not-true, not-false}
 use Rattle.eventlog.proofs.open.Statement.{statement}
 use Rattle.eventlog.proofs.open.Tie as tie
 
+declarable-requires : tie.Need-declarable-requires
+declarable-requires c κs = search needs
+
 returns : tie.Need-returns
-returns c = record { says = simp (lt-leb _ _ (c .if1 .taken)) }
+returns c =
+    let tested = c .before .declarable in
+    record { says = rw (sym (tested .ensures) ∙ not-true (tested .result) (c .if1 .taken)) }
 
 returns-2 : tie.Need-returns-2
-returns-2 c = record { says = simp (le-leb _ _ (c .before .if1 .left), lt-leb _ _ (c .if2 .taken)) }
-
-returns-3 : tie.Need-returns-3
-returns-3 c = record { says = simp (le-leb _ _ (c .before .if1 .left), le-leb _ _ (c .if2 .left)) }
+returns-2 c =
+    let tested = c .before .declarable in
+    record { says = rw (sym (tested .ensures) ∙ not-false (tested .result) (c .if1 .left)) }
 
 pub open-spec : {M : Type 1} → statement M
-open-spec = tie.close (tie.spec returns returns-2 returns-3)
+open-spec = tie.close (tie.spec declarable-requires returns returns-2)

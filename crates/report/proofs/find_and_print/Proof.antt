@@ -5,7 +5,7 @@ use native.Mathlib.Omega.{arith}
 use denote.Ref.{now}
 use Rattle.eventlog.specs.Store.{memory}
 use Rattle.report.proofs.Puts.{put-same}
-use Rattle.report.proofs.Finding.{listed-facts, listed-text, refused-text}
+use Rattle.report.proofs.FindPrinted.{listed-facts, listed-text, refused-text}
 use Rattle.report.proofs.find_and_print.Statement.{statement}
 use Rattle.report.proofs.find_and_print.Tie as tie
 

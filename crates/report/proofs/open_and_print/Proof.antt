@@ -1,7 +1,6 @@
 -- `report::open_and_print` meets its contract.
 -- Assumes nothing.
 use borrow.Author.Needs.{needs}
-use denote.Ref.{now}
 use Rattle.report.proofs.Reporting.{check-passes, check-refuses, undeclared, opened, not-opened}
 use Rattle.report.proofs.open_and_print.Statement.{statement}
 use Rattle.report.proofs.open_and_print.Tie as tie
@@ -16,7 +15,7 @@ check-threshold-and-print-requires : tie.Need-check-threshold-and-print-requires
 check-threshold-and-print-requires c κs =
     let store = c .before .before .before .before .before .store .given in
     let fresh = opened (c .before .before .before .before .before .before .before .before .before .args .n) (store .0 .0) (rw (store .1) at (c .before .before .before .before .before .before .before .open .ensures)) in
-    (fresh .low, fresh .high, fresh .no-trace)
+    (rw (fresh .same) (fresh .declared), fresh .no-trace)
 
 enum-known-refusal : tie.Need-enum-known-refusal
 enum-known-refusal c = search needs
@@ -29,18 +28,14 @@ returns c =
     let a = c .before .before .before .before .before .before .before .before .before .before .args in
     let store = c .before .before .before .before .before .before .store .given in
     let fresh = opened (a .n) (store .0 .0) (rw (store .1) at (c .before .before .before .before .before .before .before .before .open .ensures)) in
-    check-passes (undeclared (a .n)) _ _ (a .n) (a .threshold)
-    (now (a .log)) (now (a .events)) (now (a .ends)) (now (a .list)) (now (a .out)) _ _ _ _ _
-    (fresh .passes) (rw (fresh .same) at (c .check-threshold-and-print .ensures))
+    check-passes (undeclared (a .n)) (rw (fresh .declared)) (rw (fresh .same) at (c .check-threshold-and-print .ensures))
 
 returns-2 : tie.Need-returns-2
 returns-2 c =
     let a = c .before .before .before .before .before .before .before .args in
     let refusal = c .before .before .before .refusal .given in
     let closed = not-opened (a .n) (refusal .0 .0) (rw (refusal .1) at (c .before .before .before .before .before .open .ensures)) in
-    check-refuses (undeclared (a .n)) _ _ (a .n) (a .threshold)
-    (now (a .log)) (now (a .events)) (now (a .ends)) (now (a .list)) (now (a .out)) _ _
-    (closed .0) (rw (closed .1, closed .2) at (c .print-refusal .ensures))
+    check-refuses (undeclared (a .n)) (rw (closed .0)) (rw (closed .1, closed .2) at (c .print-refusal .ensures))
 
 pub open-and-print-spec : {M : Type 1} → statement M
 open-and-print-spec =

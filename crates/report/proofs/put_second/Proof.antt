@@ -32,7 +32,8 @@ same-length c = simp length-set
 
 returns : tie.Need-returns
 returns c =
-    simp (le-leb _ _ (c .if1 .taken)) (record { sized = refl; within = omega arith; follows = refl; stores = simp towards-suc })
+    let template = c .before .before .args .template in
+    simp (le-leb template 8 (omega arith)) (record { sized = refl; within = omega arith; follows = refl; stores = simp towards-suc })
 
 put-field-requires : tie.Need-put-field-requires
 put-field-requires c κs = search needs
@@ -41,7 +42,9 @@ same-length-2 : tie.Need-same-length-2
 same-length-2 c = search needs
 
 returns-2 : tie.Need-returns-2
-returns-2 c = simp (lt-leb _ _ (c .before .before .before .before .if1 .left)) (c .before .before .put-field .ensures)
+returns-2 c =
+    let template = c .before .before .before .before .before .before .args .template in
+    simp (lt-leb template 8 (omega arith)) (c .before .before .put-field .ensures)
 
 pub put-second-spec : {M : Type 1} → statement M
 put-second-spec =

@@ -3,20 +3,25 @@
 use borrow.Author.Needs.{needs}
 use native.Mathlib.Omega.{arith}
 use mathlib.Core.Path.{sym, _∙_}
+use mathlib.Core.Logic.{⊎-elim}
+use borrow.Author.Tests.{not-true, not-false}
 use denote.Ref.{now}
-use Rattle.report.proofs.SettingsLine.{cut-short, no-line-feed, settings-set}
 use lib.Seq.{length-take-le}
+use Rattle.report.proofs.SettingsLine.{cut-short, no-line-feed, settings-set}
 use Rattle.report.proofs.read_settings.Statement.{statement}
 use Rattle.report.proofs.read_settings.Tie as tie
-
-returns : tie.Need-returns
-returns c = sym (cut-short (now (c .before .before .args .input)) (omega arith))
 
 shared-slice-read-if2 : tie.Need-shared-slice-read-if2
 shared-slice-read-if2 c = search needs
 
-returns-2 : tie.Need-returns-2
-returns-2 c = sym (no-line-feed (now (c .before .before .before .before .args .input)) (c .if2 .taken))
+returns : tie.Need-returns
+returns c =
+    let input = now (c .before .before .args .input) in
+    sym
+    (⊎-elim
+    (λ short. cut-short input (short .taken))
+    (λ no-feed. no-line-feed input (not-true _ (no-feed .2 .taken)))
+    (c .if1 .came))
 
 slice-aggregate-read-field : tie.Need-slice-aggregate-read-field
 slice-aggregate-read-field c = sym (length-take-le 3 (now (c .before .before .before .before .before .args .input)) (omega arith))
@@ -39,20 +44,19 @@ read-field-requires-2 c κs = search needs
 both-set-requires : tie.Need-both-set-requires
 both-set-requires c κs = search needs
 
-returns-3 : tie.Need-returns-3
-returns-3 c =
+returns-2 : tie.Need-returns-2
+returns-2 c =
     let input = now (c .before .before .before .before .before .before .before .before .before .args .input) in
     c .both-set .ensures
     ∙ rw (c .before .read-field2 .ensures, c .before .before .before .read-field .ensures)
-    (settings-set input (omega arith) (c .before .before .before .before .before .if2 .left))
+    (settings-set input (omega arith) (not-false _ (c .before .before .before .before .before .if2 .left)))
 
 pub read-settings-spec : {M : Type 1} → statement M
 read-settings-spec =
     tie.close
     (tie.spec
-    returns
     shared-slice-read-if2
-    returns-2
+    returns
     slice-aggregate-read-field
     read-field-requires
     sub-read-field
@@ -60,4 +64,4 @@ read-settings-spec =
     part-read-field-end
     read-field-requires-2
     both-set-requires
-    returns-3)
+    returns-2)

@@ -1,4 +1,4 @@
--- `report::report` meets its contract: each way out is one of the first two checks, or the steps after them.
+-- `report::report` meets its contract: each way out is one of the first two checks, or the stages after them.
 -- Assumes nothing.
 use borrow.Author.Needs.{needs}
 use mathlib.Core.Path.{sym, _∙_}
@@ -18,7 +18,7 @@ refuse-requires c κs = search needs
 returns : tie.Need-returns
 returns c =
     let a = c .before .before .before .before .args in
-    too-long-prints (now (a .input)) (now (a .events)) (now (a .ends)) (now (a .list)) (now (a .out)) _ _ (c .before .before .if1 .taken) (c .refuse .ensures)
+    too-long-prints (now (a .input)) (omega arith) (c .refuse .ensures)
 
 read-settings-requires : tie.Need-read-settings-requires
 read-settings-requires c κs = search needs
@@ -54,13 +54,13 @@ returns-2 : tie.Need-returns-2
 returns-2 c =
     let a = c .before .before .before .before .before .before .before .before .before .before .before .before .args in
     let set = c .before .before .before .before .before .before .before .n .given in
-    set-prints (now (a .input)) (now (a .events)) (now (a .ends)) (now (a .list)) (now (a .out)) _ (c .before .before .before .before .before .before .before .before .before .before .if1 .left) _ _ _ _ _ _ _ (sym (c .before .before .before .before .before .before .before .before .before .read-settings .ensures) ∙ set .1)
+    set-prints (now (a .input)) (omega arith) _ _ _ (sym (c .before .before .before .before .before .before .before .before .before .read-settings .ensures) ∙ set .1)
     (take-all (length (now (a .input)) - 8) (drop 8 (now (a .input))) (omega (arith, length-drop 8 (now (a .input))))) (c .open-and-print .ensures)
 
 returns-3 : tie.Need-returns-3
 returns-3 c =
     let a = c .before .before .before .before .before .before .before .args in
-    malformed-prints (now (a .input)) (now (a .events)) (now (a .ends)) (now (a .list)) (now (a .out)) _ (c .before .before .before .before .before .if1 .left) _ (sym (c .before .before .before .before .read-settings .ensures) ∙ c .before .before .enum-told .given .1) (c .refuse2 .ensures)
+    malformed-prints (now (a .input)) (omega arith) (sym (c .before .before .before .before .read-settings .ensures) ∙ c .before .before .enum-told .given .1) (c .refuse2 .ensures)
 
 pub report-spec : {M : Type 1} → statement M
 report-spec =

@@ -1,0 +1,4 @@
+pub mod Bools
+pub mod Checks
+pub mod Lists
+pub mod Stores

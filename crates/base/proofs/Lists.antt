@@ -1,0 +1,204 @@
+-- Laws of lists: filter, count, range, flat map, equality, and parts.
+-- Assumes nothing.
+use Prim.Native.Nat.{ℕ, zero, suc, _+_, _-_, _≤_, _<_}
+use native.Mathlib.Numerals.{add-one}
+use native.Mathlib.Omega.{arith}
+use native.Mathlib.Decide.{ℕ-discrete}
+use native.Mathlib.Nat.{zero-add, suc-add}
+use mathlib.Core.Path.{_≡_, refl, sym, ap, ap₂, subst, _∙_}
+use mathlib.Core.Logic.{_⊎_, inl, inr, ⊎-elim}
+use mathlib.Core.Bool.{Bool, true, false, not, true≢false, false≢true}
+use mathlib.Core.List.{List, [], _∷_, _++_, append-assoc, append-nil, List·Memᴰ, List·Memᴰ·head, List·Memᴰ·tail, List·Memᴰ·not-nil, List·Memᴰ·cases-cons, List·Memᴰ·append-cases, Memᴰ·append-left, Memᴰ·append-right, Sublistᴰ, Sublistᴰ·slnil, Sublistᴰ·cons, Sublistᴰ·cons-cons, List·Permᴰ, List·Permᴰ·nil, List·Permᴰ·cons, List·Permᴰ·swap, List·Permᴰ·trans}
+use lib.ListN.{length, take, drop, length-append}
+use lib.Seq.{slice, take-nil}
+use Rattle.base.specs.Logic.{if_then_else_}
+use Rattle.base.specs.Lists.{filter, count, range, flat-map, equal-lists}
+use Rattle.base.proofs.Bools.{and-left, and-right, and-both}
+
+-- ## Parts
+
+pub take-drop {ℓ} : {A : Type ℓ} (from more : ℕ) (l : List A) → take more (drop from l) ≡ slice from (from + more) l
+take-drop zero more l = rw zero-add
+take-drop (suc from) more [] = rw suc-add (take-nil more)
+take-drop (suc from) more (x ∷ l) = rw suc-add (take-drop from more l)
+
+-- a part that is handed on, from a start to an end, is the slice that the definitions speak of
+pub part-slice {ℓ} : {A : Type ℓ} (from to : ℕ) (l : List A) → from ≤ to → take (to - from) (drop from l) ≡ slice from to l
+part-slice from to l h =
+    let e : from + (to - from) ≡ to = omega arith in
+    take-drop from (to - from) l ∙ ap (λ (n : ℕ). slice from n l) e
+
+-- ## Equality
+
+module _ {A : Type 0} (equal : A → A → Bool) where
+  pub equal-lists-same : ((x y : A) → equal x y ≡ true → x ≡ y) → (xs ys : List A) → equal-lists equal xs ys ≡ true → xs ≡ ys
+  equal-lists-same same [] [] h = refl
+  equal-lists-same same [] (y ∷ ys) h = absurd (false≢true h)
+  equal-lists-same same (x ∷ xs) [] h = absurd (false≢true h)
+  equal-lists-same same (x ∷ xs) (y ∷ ys) h =
+      ap₂ _∷_ (same x y (and-left (equal x y) (equal-lists equal xs ys) h))
+      (equal-lists-same same xs ys (and-right (equal x y) (equal-lists equal xs ys) h))
+
+  pub equal-lists-refl : ((x : A) → equal x x ≡ true) → (xs : List A) → equal-lists equal xs xs ≡ true
+  equal-lists-refl same [] = refl
+  equal-lists-refl same (x ∷ xs) = and-both (equal x x) (equal-lists equal xs xs) (same x) (equal-lists-refl same xs)
+
+-- ## Filter
+
+module _ {A : Type 0} (p : A → Bool) where
+  pub filter-member : (x : A) (xs : List A) → List·Memᴰ x (filter p xs) → List·Memᴰ x xs × (p x ≡ true)
+  filter-member x [] h = absurd (List·Memᴰ·not-nil h)
+  filter-member x (y ∷ xs) h = go (p y) refl h (filter-member x xs)
+    where
+      below : List·Memᴰ x xs × (p x ≡ true) → List·Memᴰ x (y ∷ xs) × (p x ≡ true)
+      below k = (List·Memᴰ·tail (k .0), k .1)
+
+      go :
+          (t : Bool) → p y ≡ t → List·Memᴰ x (if t then y ∷ filter p xs else filter p xs) →
+          (List·Memᴰ x (filter p xs) → List·Memᴰ x xs × (p x ≡ true)) → List·Memᴰ x (y ∷ xs) × (p x ≡ true)
+      go true e h f = ⊎-elim (λ q. (List·Memᴰ·head q, ap p q ∙ e)) (λ k. below (f k)) (List·Memᴰ·cases-cons h)
+      go false e h f = below (f h)
+
+  pub member-filter : (x : A) (xs : List A) → List·Memᴰ x xs → p x ≡ true → List·Memᴰ x (filter p xs)
+  member-filter x [] h k = absurd (List·Memᴰ·not-nil h)
+  member-filter x (y ∷ xs) h k = go (p y) refl (List·Memᴰ·cases-cons h) (λ h. member-filter x xs h k)
+    where
+      go :
+          (t : Bool) → p y ≡ t → (x ≡ y) ⊎ List·Memᴰ x xs → (List·Memᴰ x xs → List·Memᴰ x (filter p xs)) →
+          List·Memᴰ x (if t then y ∷ filter p xs else filter p xs)
+      go true e (inl q) f = List·Memᴰ·head q
+      go true e (inr h) f = List·Memᴰ·tail (f h)
+      go false e (inl q) f = absurd (true≢false (sym k ∙ ap p q ∙ e))
+      go false e (inr h) f = f h
+
+  pub filter-sublist : (xs : List A) → Sublistᴰ (filter p xs) xs
+  filter-sublist [] = Sublistᴰ·slnil
+  filter-sublist (x ∷ xs) = go (p x) (filter-sublist xs)
+    where
+      go : (t : Bool) → Sublistᴰ (filter p xs) xs → Sublistᴰ (if t then x ∷ filter p xs else filter p xs) (x ∷ xs)
+      go true s = Sublistᴰ·cons-cons refl s
+      go false s = Sublistᴰ·cons s
+
+  pub filter-append : (xs ys : List A) → filter p (xs ++ ys) ≡ filter p xs ++ filter p ys
+  filter-append [] ys = refl
+  filter-append (x ∷ xs) ys = go (p x) (filter-append xs ys)
+    where
+      go :
+          (t : Bool) → filter p (xs ++ ys) ≡ filter p xs ++ filter p ys →
+          (if t then x ∷ filter p (xs ++ ys) else filter p (xs ++ ys)) ≡ (if t then x ∷ filter p xs else filter p xs) ++ filter p ys
+      go true e = ap (λ (l : List A). x ∷ l) e
+      go false e = e
+
+-- ## Count
+
+more-if : (p q : Bool) (x y : ℕ) → (p ≡ true → q ≡ true) → x ≤ y → (if p then suc x else x) ≤ (if q then suc y else y)
+more-if true q x y f h = rw (f refl) (omega arith)
+more-if false true x y f h = omega arith
+more-if false false x y f h = h
+
+pub count-cons {ℓ} : {A : Type ℓ} (p : A → Bool) (x : A) (xs : List A) → count p (x ∷ xs) ≡ (if p x then suc (count p xs) else count p xs)
+count-cons p x xs = go (p x)
+  where
+    go : (t : Bool) → length (if t then x ∷ filter p xs else filter p xs) ≡ (if t then suc (count p xs) else count p xs)
+    go true = refl
+    go false = refl
+
+-- a weaker test is passed by no fewer
+pub count-weaker {ℓ} : {A : Type ℓ} (p q : A → Bool) → ((x : A) → p x ≡ true → q x ≡ true) → (xs : List A) → count p xs ≤ count q xs
+count-weaker p q f [] = omega arith
+count-weaker p q f (x ∷ xs) = rw (count-cons p x xs, count-cons q x xs) (more-if (p x) (q x) _ _ (f x) (count-weaker p q f xs))
+
+pub count-append : {A : Type 0} (p : A → Bool) (xs ys : List A) → count p (xs ++ ys) ≡ count p xs + count p ys
+count-append p xs ys = ap length (filter-append p xs ys) ∙ length-append (filter p xs) (filter p ys)
+
+pub not-counted : {A : Type 0} (p : A → Bool) (xs : List A) → count (λ x. not (p x)) xs + count p xs ≡ length xs
+not-counted p [] = refl
+not-counted p (x ∷ xs) = rw (count-cons p x xs, count-cons (λ x. not (p x)) x xs) (go (p x) (not-counted p xs))
+  where
+    go : (t : Bool) → count (λ x. not (p x)) xs + count p xs ≡ length xs →
+        (if not t then suc (count (λ x. not (p x)) xs) else count (λ x. not (p x)) xs) + (if t then suc (count p xs) else count p xs) ≡ suc (length xs)
+    go true e = omega arith
+    go false e = omega arith
+
+pub count-at-most : {A : Type 0} (p : A → Bool) (xs : List A) → count p xs ≤ length xs
+count-at-most p xs = omega (arith, not-counted p xs)
+
+either-first : (s t : Bool) (k : ℕ) →
+    (if s then suc (if t then suc k else k) else (if t then suc k else k)) ≡ (if t then suc (if s then suc k else k) else (if s then suc k else k))
+either-first true true k = refl
+either-first true false k = refl
+either-first false true k = refl
+either-first false false k = refl
+
+pub permuted-length : {A : Type 0} {xs ys : List A} → List·Permᴰ xs ys → length xs ≡ length ys
+permuted-length List·Permᴰ·nil = refl
+permuted-length (List·Permᴰ·cons e d) = ap suc (permuted-length d)
+permuted-length (List·Permᴰ·swap e f) = refl
+permuted-length (List·Permᴰ·trans d e) = permuted-length d ∙ permuted-length e
+
+module _ {A : Type 0} (p : A → Bool) where
+  count-two : (x y : A) (xs : List A) → count p (x ∷ (y ∷ xs)) ≡ (if p x then suc (if p y then suc (count p xs) else count p xs) else (if p y then suc (count p xs) else count p xs))
+  count-two x y xs = count-cons p x (y ∷ xs) ∙ ap (λ k. if p x then suc k else k) (count-cons p y xs)
+
+  -- a permutation has as many that pass
+  pub permuted-count : {xs ys : List A} → List·Permᴰ xs ys → count p xs ≡ count p ys
+  permuted-count List·Permᴰ·nil = refl
+  permuted-count (List·Permᴰ·cons {a = a} {b = b} {l₁ = xs} {l₂ = ys} e d) =
+      count-cons p a xs ∙ ap₂ (λ x k. if p x then suc k else k) e (permuted-count d) ∙ sym (count-cons p b ys)
+  permuted-count (List·Permᴰ·swap {a = a} {b = b} {a′ = a′} {b′ = b′} {l = xs} e f) =
+      ap₂ (λ x y. count p (x ∷ (y ∷ xs))) e f
+      ∙ count-two b′ a′ xs ∙ either-first (p b′) (p a′) (count p xs) ∙ sym (count-two a′ b′ xs)
+  permuted-count (List·Permᴰ·trans d e) = permuted-count d ∙ permuted-count e
+
+-- ## Flat map
+
+module _ {A B : Type 0} (f : A → List B) where
+  pub flat-map-member : (y : B) (xs : List A) → List·Memᴰ y (flat-map xs f) → (x : A) × List·Memᴰ x xs × List·Memᴰ y (f x)
+  flat-map-member y [] h = absurd (List·Memᴰ·not-nil h)
+  flat-map-member y (x ∷ xs) h = ⊎-elim (λ h. (x, List·Memᴰ·head refl, h)) (λ h. below (flat-map-member y xs h)) (List·Memᴰ·append-cases (f x) h)
+    where
+      below : ((z : A) × List·Memᴰ z xs × List·Memᴰ y (f z)) → (z : A) × List·Memᴰ z (x ∷ xs) × List·Memᴰ y (f z)
+      below k = (k .0, List·Memᴰ·tail (k .1), k .2)
+
+  pub member-flat-map : (y : B) (x : A) (xs : List A) → List·Memᴰ x xs → List·Memᴰ y (f x) → List·Memᴰ y (flat-map xs f)
+  member-flat-map y x [] h k = absurd (List·Memᴰ·not-nil h)
+  member-flat-map y x (z ∷ xs) h k =
+      ⊎-elim (λ e. Memᴰ·append-left (flat-map xs f) (subst (λ x. List·Memᴰ y (f x)) e k)) (λ h. Memᴰ·append-right (f z) (member-flat-map y x xs h k)) (List·Memᴰ·cases-cons h)
+
+pub flat-map-append : {A B : Type 0} (f : A → List B) (xs ys : List A) → flat-map (xs ++ ys) f ≡ flat-map xs f ++ flat-map ys f
+flat-map-append f [] ys = refl
+flat-map-append f (x ∷ xs) ys = ap (λ l. f x ++ l) (flat-map-append f xs ys) ∙ sym (append-assoc (f x) _ _)
+
+-- ## Range
+
+pub range-member : (x first more : ℕ) → List·Memᴰ x (range first more) → (first ≤ x) × (x < first + more)
+range-member x first zero h = absurd (List·Memᴰ·not-nil h)
+range-member x first (suc more) h =
+    ⊎-elim (λ e. omega arith) (λ h. let k = range-member x (suc first) more h in omega arith) (List·Memᴰ·cases-cons h)
+
+pub member-range : (x first more : ℕ) → first ≤ x → x < first + more → List·Memᴰ x (range first more)
+member-range x first zero low high = absurd (omega arith)
+member-range x first (suc more) low high = go (ℕ-discrete x first) (member-range x (suc first) more)
+  where
+    go : Dec (x ≡ first) → (suc first ≤ x → x < suc first + more → List·Memᴰ x (range (suc first) more)) → List·Memᴰ x (range first (suc more))
+    go (yes e) f = List·Memᴰ·head e
+    go (no n) f = List·Memᴰ·tail (f (omega arith) (omega arith))
+
+pub range-length : (first more : ℕ) → length (range first more) ≡ more
+range-length first zero = refl
+range-length first (suc more) = ap suc (range-length (suc first) more)
+
+range-snoc : (first more : ℕ) → range first (suc more) ≡ range first more ++ ((first + more) ∷ [])
+range-snoc first zero = ap (λ (x : ℕ). x ∷ []) (omega arith)
+range-snoc first (suc more) =
+    ap (λ (l : List ℕ). first ∷ l)
+    (range-snoc (suc first) more ∙ ap (λ (x : ℕ). range (suc first) more ++ (x ∷ [])) (omega arith))
+
+pub flat-map-snoc :
+    {B : Type 0} (f : ℕ → List B) (first more : ℕ) →
+    flat-map (range first (more + 1)) f ≡ flat-map (range first more) f ++ f (first + more)
+flat-map-snoc {B} f first more =
+    ap (λ (k : ℕ). flat-map (range first k) f) (add-one more)
+    ∙ ap (λ (l : List ℕ). flat-map l f) (range-snoc first more)
+    ∙ flat-map-append f (range first more) ((first + more) ∷ [])
+    ∙ ap (λ (l : List B). flat-map (range first more) f ++ l) (append-nil (f (first + more)))

@@ -1,0 +1,31 @@
+-- Lists: filter, count, range, flat map, equality. (The library's filter and count go by decisions and not by tests.)
+-- Assumes nothing.
+use Prim.Native.Nat.{ℕ, zero, suc}
+use mathlib.Core.Bool.{Bool, true, false, _&&_}
+use mathlib.Core.List.{List, [], _∷_, _++_}
+use lib.ListN.{length}
+use Rattle.base.specs.Logic.{if_then_else_}
+
+-- those that pass a test
+abbrev pub filter {ℓ} : {A : Type ℓ} → (A → Bool) → List A → List A
+filter p [] = []
+filter p (x ∷ xs) = if p x then x ∷ filter p xs else filter p xs
+
+abbrev pub count {ℓ} : {A : Type ℓ} → (A → Bool) → List A → ℕ
+count p xs = length (filter p xs)
+
+-- as many numbers as said, from the first on
+abbrev pub range : ℕ → ℕ → List ℕ
+range first zero = []
+range first (suc more) = first ∷ range (suc first) more
+
+abbrev pub flat-map : {A B : Type 0} → List A → (A → List B) → List B
+flat-map [] f = []
+flat-map (x ∷ xs) f = f x ++ flat-map xs f
+
+-- as long as each other, and equal element by element
+abbrev pub equal-lists : {A : Type 0} → (A → A → Bool) → List A → List A → Bool
+equal-lists equal [] [] = true
+equal-lists equal [] (y ∷ ys) = false
+equal-lists equal (x ∷ xs) [] = false
+equal-lists equal (x ∷ xs) (y ∷ ys) = equal x y && equal-lists equal xs ys
