@@ -1,5 +1,5 @@
 /*
- * Budgieleaf from C: a log of traces, and the constraints (DECLARE templates) that hold over it.
+ * Budgieleaf from C: a store of traces, and the constraints (DECLARE templates) that hold over them.
  *
  * Link with target/staticlib/libcapi.a, which `rt staticlib capi` makes (x86-64 Linux). The archive needs no other
  * library, allocates nothing, keeps nothing between calls and prints nothing. Calls on different memory may run at the
@@ -9,7 +9,7 @@
  * hand after that source.
  *
  * WHAT IS LENT
- *   store    2 numbers, the record of a log: store[0] is N, the number of declared activities; store[1] is the number
+ *   store    2 numbers, the record of a store: store[0] is N, the number of declared activities; store[1] is the number
  *            of traces kept. `budgieleaf_open` sets both. Keep it with its two buffers.
  *   events   the kept activities, one byte each, trace after trace. `events_length` is the room, in bytes.
  *   ends     the k-th number is the length of the first k traces together. `ends_length` is the room, in numbers.
@@ -22,7 +22,7 @@
  * 0 where the call is accepted, else the number of the refusal; answer[0] is then its detail. The other numbers of
  * `answer` are 0 unless said below. A refused call leaves the store, both buffers and the list as they were.
  *
- *    1  the log is not sound (see `budgieleaf_is_sound`)                                  detail 0
+ *    1  the store is not sound (see `budgieleaf_is_sound`)                                detail 0
  *    2  N is not 1 to 32                                                                  (open has no detail)
  *    3  the threshold is not 1 to 1000                                                    detail 0
  *    4  a line of the log is malformed                                                    detail: the line, from 1
@@ -46,15 +46,15 @@ extern "C" {
 #endif
 
 /*
- * An empty log for n declared activities, 0 to n - 1. Accepted: store is { n, 0 }; the buffers are not touched, and
+ * An empty store for n declared activities, 0 to n - 1. Accepted: store is { n, 0 }; the buffers are not touched, and
  * what stood in them does not matter. Refusals: 2.
  */
 uint32_t budgieleaf_open(uint32_t n, uint32_t store[2]);
 
 /*
- * Whether the log is sound: N is 1 to 32; at most 4095 traces are kept and no more than `ends` has room for; no end is
+ * Whether the store is sound: N is 1 to 32; at most 4095 traces are kept and no more than `ends` has room for; no end is
  * below the one before it (0 before the first) or more than 4096 above it; the last end is at most events_length; each
- * kept activity is below N. What the other calls leave of a sound log is sound. Reads the kept ends and events once.
+ * kept activity is below N. What the other calls leave of a sound store is sound. Reads the kept ends and events once.
  */
 bool budgieleaf_is_sound(const uint32_t store[2], const uint8_t *events, size_t events_length, const uint32_t *ends,
                          size_t ends_length);
