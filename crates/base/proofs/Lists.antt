@@ -1,4 +1,4 @@
--- Laws of lists: filter, count, range, flat map, equality, and parts.
+-- Laws of lists: all, filter, count, range, flat map, equality, and parts.
 -- Assumes nothing.
 use Prim.Native.Nat.{ℕ, zero, suc, _+_, _-_, _≤_, _<_}
 use native.Mathlib.Numerals.{add-one}
@@ -12,7 +12,7 @@ use mathlib.Core.List.{List, [], _∷_, _++_, append-assoc, append-nil, List·Me
 use lib.ListN.{length, take, drop, length-append}
 use lib.Seq.{slice, take-nil}
 use Rattle.base.specs.Logic.{if_then_else_}
-use Rattle.base.specs.Lists.{filter, count, range, flat-map, equal-lists}
+use Rattle.base.specs.Lists.{filter, count, all, range, flat-map, equal-lists}
 use Rattle.base.proofs.Bools.{and-left, and-right, and-both}
 
 -- ## Parts
@@ -42,6 +42,13 @@ module _ {A : Type 0} (equal : A → A → Bool) where
   pub equal-lists-refl : ((x : A) → equal x x ≡ true) → (xs : List A) → equal-lists equal xs xs ≡ true
   equal-lists-refl same [] = refl
   equal-lists-refl same (x ∷ xs) = and-both (equal x x) (equal-lists equal xs xs) (same x) (equal-lists-refl same xs)
+
+-- ## All
+
+pub all-append {ℓ} : {A : Type ℓ} (p : A → Bool) (xs ys : List A) → all p xs ≡ true → all p ys ≡ true → all p (xs ++ ys) ≡ true
+all-append p [] ys h k = k
+all-append p (x ∷ xs) ys h k =
+    and-both (p x) (all p (xs ++ ys)) (and-left (p x) (all p xs) h) (all-append p xs ys (and-right (p x) (all p xs) h) k)
 
 -- ## Filter
 

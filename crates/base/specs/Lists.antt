@@ -1,4 +1,4 @@
--- Lists: filter, count, range, flat map, equality. (The library's filter and count go by decisions and not by tests.)
+-- Lists: filter, count, all, range, flat map, equality. (The library's filter and count go by decisions and not by tests.)
 -- Assumes nothing.
 use Prim.Native.Nat.{ℕ, zero, suc}
 use mathlib.Core.Bool.{Bool, true, false, _&&_}
@@ -13,6 +13,10 @@ filter p (x ∷ xs) = if p x then x ∷ filter p xs else filter p xs
 
 abbrev pub count {ℓ} : {A : Type ℓ} → (A → Bool) → List A → ℕ
 count p xs = length (filter p xs)
+
+abbrev pub all {ℓ} : {A : Type ℓ} → (A → Bool) → List A → Bool
+all p [] = true
+all p (x ∷ xs) = p x && all p xs
 
 -- as many numbers as said, from the first on
 abbrev pub range : ℕ → ℕ → List ℕ

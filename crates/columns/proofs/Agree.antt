@@ -14,7 +14,7 @@ use borrow.Author.Tests.{lt-ltb, le-ltb, eq-eqb, ne-eqb, leb-true, leb-false, eq
 use Rattle.base.specs.Logic.{if_then_else_}
 use Rattle.base.specs.Checks.{Check, _refuses_with_, Reply, gives, refused, reply}
 use Rattle.eventlog.specs.declared.Room.{Room}
-use Rattle.eventlog.specs.Store.{longest-trace, total, all-below, full}
+use Rattle.eventlog.specs.Store.{longest-trace, total, all-below, after-traces, full}
 use Rattle.columns.specs.declared.Progress.{Progress}
 use Rattle.columns.specs.Field.{line-feed, well-formed, value}
 use Rattle.columns.specs.Log.{Line, line-of, lines-within, lines, Before, nothing-read, with-line, last?, length-of, extend-last, line-checks, log-checks-from, spelled-from}
@@ -23,7 +23,7 @@ use Rattle.columns.specs.Calls.{read-said}
 use Rattle.base.proofs.Bools.{either, and-left, and-right}
 use Rattle.columns.proofs.LineSteps.{Faultless, faultless, bounded-next}
 use Rattle.columns.proofs.Traces.{Acceptable, Fitting, total-last, acceptable-last, acceptable-front}
-use Rattle.eventlog.proofs.Laws.{all-below-append}
+use Rattle.base.proofs.Lists.{all-append}
 
 -- ## What stands before a line, in numbers
 
@@ -106,14 +106,14 @@ module _ (o : Room) (place : ℕ) (line : Line) (more : List Check) (values : Li
       reply (line-checks o nothing-read place line ++ more) values ≡
       decided (refusal o (at-start o) line) place (reply more values)
   start-line =
-      in-order (line .laid-out) false (leb (o .activities) (line .activity)) false false (full (o .traces + 0) (o .ends))
+      in-order (line .laid-out) false (leb (o .activities) (line .activity)) false false (full (after-traces o []))
       (ltb (o .events) (o .last + 0 + 1)) place more values
       ∙ ap (λ (k : ℕ). decided k place (reply more values)) same
     where
       same :
           (if line .laid-out then
           if leb (o .activities) (line .activity) then 6
-          else if full (o .traces + 0) (o .ends) then 8 else if ltb (o .events) (o .last + 0 + 1) then 9 else 0
+          else if full (after-traces o []) then 8 else if ltb (o .events) (o .last + 0 + 1) then 9 else 0
           else 4) ≡ refusal o (at-start o) line
       same =
           either (line .laid-out)
@@ -145,7 +145,7 @@ module _ (o : Room) (place : ℕ) (line : Line) (more : List Check) (values : Li
       (λ q. eq-eqb (length trace) longest-trace (omega (arith, eqb-true (longest-trace - length trace) 0 q)) ∙ sym q)
       (λ q. let apart = eqb-false (longest-trace - length trace) 0 q in ne-eqb (length trace) longest-trace (λ z. omega arith) ∙ sym q) in
       rw (as-long, no-room-same (o .events) last)
-      (in-order (line .laid-out) falls undeclared same long (full (o .traces + count) (o .ends)) (leb (o .events) last) place more values)
+      (in-order (line .laid-out) falls undeclared same long (full (after-traces o (traces ++ (trace ∷ [])))) (leb (o .events) last) place more values)
 
   checked :
       (s : Prefix) → Acceptable (o .activities) (before-of s .traces) →
@@ -195,7 +195,7 @@ module _ (o : Room) (line : Line) where
           counted = rw (eq-eqb (line .number) (before .number) same, left, added, last);
           each =
               acceptable-last (o .activities) traces (trace ++ (x ∷ [])) (f .0)
-              (all-below-append (o .activities) trace (x ∷ []) (f .1) (declared-one (o .activities) x declared)) (omega arith);
+              (all-append (λ y. ltb y (o .activities)) trace (x ∷ []) (f .1) (declared-one (o .activities) x declared)) (omega arith);
         }
 
     other-on :

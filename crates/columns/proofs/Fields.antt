@@ -5,33 +5,24 @@ use Prim.Native.Nat.{ℕ, zero, suc, _+_, _-_, _*_, _/_, _%_, _^_, _≤_, _<_}
 use mathlib.Core.Path.{_≡_, refl, sym, ap, _∙_}
 use mathlib.Core.Logic.{_↔_}
 use mathlib.Core.Bool.{Bool, true, false, not, _&&_}
-use mathlib.Core.List.{List, [], _∷_, _++_, append-assoc, append-nil}
+use mathlib.Core.List.{List, [], _∷_, _++_, append-assoc, append-nil, reverse, reverse-cons}
 use native.Mathlib.Omega.{arith}
 use native.Mathlib.Numerals.{add-one}
 use native.Mathlib.Nat.{add-zero, zero-add, sub-zero, pow-suc, pow-succ', mul-assoc, mul-le-mul-right, lt-of-lt-of-le}
 use lib.Dec.{eqb, leb}
-use lib.ListN.{length, getD, drop, replicate, length-append, length-replicate}
+use lib.ListN.{length, getD, drop, replicate, length-append, length-replicate, length-reverse}
 use lib.Seq.{drop-cons}
 use borrow.Author.Tests.{le-leb, lt-leb, leb-true, leb-false, ne-eqb, eqb-true, eqb-false, not-true}
 use Rattle.base.specs.Logic.{if_then_else_}
 use Rattle.columns.specs.declared.Field.{Field}
 use Rattle.columns.specs.declared.Scan.{Scan}
 use Rattle.columns.specs.declared.Scan.the-variants.{Blanks, Digits, Broken}
-use Rattle.columns.specs.Field.{blank, is-digit, all-digits, numeral, well-formed, value-from, value, digits-of, reversed-onto, spell, widest, field-of}
+use Rattle.columns.specs.Field.{blank, is-digit, all-digits, numeral, well-formed, value-from, value, digits-of, spell, widest, field-of}
 use Rattle.columns.specs.Scan.{scan-byte, scan-from, so-far, finish}
+use Rattle.base.proofs.Lists.{all-append}
 use Rattle.base.proofs.Bools.{and-left, and-right, and-both, either, clash}
 
 -- ## Spelling, from the right
-
-onto-append : (bytes xs : List ℕ) → reversed-onto bytes xs ≡ reversed-onto [] xs ++ bytes
-onto-append bytes [] = refl
-onto-append bytes (x ∷ xs) =
-    onto-append (x ∷ bytes) xs ∙ sym (append-assoc (reversed-onto [] xs) (x ∷ []) bytes)
-    ∙ ap (λ (l : List ℕ). l ++ bytes) (sym (onto-append (x ∷ []) xs))
-
-length-onto : (bytes xs : List ℕ) → length (reversed-onto bytes xs) ≡ length xs + length bytes
-length-onto bytes [] = omega arith
-length-onto bytes (x ∷ xs) = omega (arith, length-onto (x ∷ bytes) xs)
 
 length-digits : (most n : ℕ) → length (digits-of most n) ≤ most
 length-digits zero n = omega arith
@@ -46,26 +37,26 @@ length-digits (suc most) n = by (leb 10 n) (length-digits most (n / 10))
 pub length-spell : (width n : ℕ) → length (spell width n) ≡ width
 unfolding spell
 length-spell width n =
-    let digits = reversed-onto [] (digits-of width n) in
+    let digits = reverse (digits-of width n) in
     omega (
       arith,
       length-append (replicate (width - length digits) blank) digits,
       length-replicate (width - length digits) blank,
-      length-onto [] (digits-of width n),
+      length-reverse (digits-of width n),
       length-digits width n,
     )
 
 framed : ℕ → List ℕ → List ℕ
-framed width xs = replicate (width - length (reversed-onto [] xs)) blank ++ reversed-onto [] xs
+framed width xs = replicate (width - length (reverse xs)) blank ++ reverse xs
 
 framed-step : (width d : ℕ) (xs : List ℕ) → framed (suc width) (d ∷ xs) ≡ framed width xs ++ (d ∷ [])
 unfolding framed
 framed-step width d xs =
-    let as-many : suc width - length (reversed-onto [] xs ++ (d ∷ [])) ≡ width - length (reversed-onto [] xs) =
-    omega (arith, length-append (reversed-onto [] xs) (d ∷ [])) in
-    ap (λ (l : List ℕ). replicate (suc width - length l) blank ++ l) (onto-append (d ∷ []) xs)
-    ∙ ap (λ (k : ℕ). replicate k blank ++ (reversed-onto [] xs ++ (d ∷ []))) as-many
-    ∙ sym (append-assoc (replicate (width - length (reversed-onto [] xs)) blank) (reversed-onto [] xs) (d ∷ []))
+    let as-many : suc width - length (reverse xs ++ (d ∷ [])) ≡ width - length (reverse xs) =
+    omega (arith, length-append (reverse xs) (d ∷ [])) in
+    ap (λ (l : List ℕ). replicate (suc width - length l) blank ++ l) (reverse-cons d xs)
+    ∙ ap (λ (k : ℕ). replicate k blank ++ (reverse xs ++ (d ∷ []))) as-many
+    ∙ sym (append-assoc (replicate (width - length (reverse xs)) blank) (reverse xs) (d ∷ []))
 
 -- the last column is the last digit, and before it the rest of the number is spelled, or there are blanks
 pub spell-step :
@@ -134,9 +125,7 @@ value-snoc v (b ∷ bs) d e =
     (λ q. rw q (value-snoc (v * 10 + (b - 48)) bs d e))
 
 digits-snoc : (xs : List ℕ) (d : ℕ) → all-digits xs ≡ true → is-digit d ≡ true → all-digits (xs ++ (d ∷ [])) ≡ true
-digits-snoc [] d p e = and-both (is-digit d) true e refl
-digits-snoc (b ∷ bs) d p e =
-    and-both (is-digit b) (all-digits (bs ++ (d ∷ []))) (first-digit b bs p) (digits-snoc bs d (other-digits b bs p) e)
+digits-snoc xs d p e = all-append is-digit xs (d ∷ []) p (and-both (is-digit d) true e refl)
 
 not-zero : (b : ℕ) → 1 ≤ b - 48 → not (eqb b 48) ≡ true
 not-zero b h = rw (ne-eqb b 48 (λ q. omega arith))

@@ -89,7 +89,7 @@ line-checks r before place line =
     (number-falls (before .line) line refuses 5 with place) ∷
     (leb (r .activities) (line .activity) refuses 6 with place) ∷
     (same-trace (before .line) line && eqb (length-of (last? (before .traces))) longest-trace refuses 7 with place) ∷
-    (not (same-trace (before .line) line) && full (left .traces) (left .ends) refuses 8 with place) ∷
+    (not (same-trace (before .line) line) && full left refuses 8 with place) ∷
     (lacks left 1 refuses 9 with place) ∷
     []
 

@@ -13,7 +13,7 @@ ghost use Rattle.eventlog.specs.Store.{most-traces, longest-trace, lent, sound,
 ghost use Rattle.columns.specs.Field.{is-digit, field-of};
 ghost use Rattle.columns.specs.Scan.{scan-byte, finish, so-far};
 ghost use Rattle.columns.specs.Log.{line-of, lines, spelled};
-ghost use Rattle.columns.specs.Survey.{at-start, entry-of, Bounded, unplaced-of, fault-of, next-of, step-of, survey-of, accepted, moved, line-written, Writable, lines-written};
+ghost use Rattle.columns.specs.Survey.{at-start, entry-of, Bounded, room-left, unplaced-of, fault-of, next-of, step-of, survey-of, accepted, moved, line-written, Writable, lines-written};
 ghost use Rattle.columns.specs.Calls.{checks-of-read, with-traces, read-said, Reads};
 
 // Document 01's numbers of the refusals that come from here.
@@ -183,6 +183,20 @@ fn unplaced(room: Room, p: Progress) -> u8
     }
 }
 
+// The room that is left so far.
+fn left_in(room: Room, p: Progress) -> Room
+    requires { ⌜ Bounded room p ⌝ }
+    ensures { λ r. ⌜ r ≡ room-left room p ⌝ }
+{
+    Room {
+        activities: room.activities,
+        traces: room.traces + p.added,
+        last: p.last,
+        events: room.events,
+        ends: room.ends,
+    }
+}
+
 // The number that a laid-out line is refused with, 0 where it has no fault.
 fn fault(room: Room, p: Progress, number: u32, activity: u32) -> u8
     requires { ⌜ Bounded room p ⌝ }
@@ -200,7 +214,7 @@ fn fault(room: Room, p: Progress, number: u32, activity: u32) -> u8
         }
         return unplaced(room, p);
     }
-    if eventlog::is_full(room.traces + p.added, room.ends) {
+    if eventlog::is_full(left_in(room, p)) {
         return eventlog::FULL;
     }
     unplaced(room, p)

@@ -10,6 +10,7 @@ use borrow.Author.Tests.{leb-true, le-leb}
 use lib.Dec.{leb, ltb}
 use lib.ListN.{length, take, drop, length-append, length-set}
 use lib.Seq.{slice, length-slice, length-sets, sets-eq, length-take-le, take-take, take-at, drop-at, take-suc-set}
+use Rattle.base.proofs.Lists.{all-append}
 use Rattle.base.proofs.Bools.{and-left, and-right, and-both}
 use Rattle.eventlog.specs.Store.{most-activities, most-traces, longest-trace, declarable, Memory, memory, cut, kept, total}
 use Rattle.eventlog.specs.Store.{last-from, last-end, rising, all-below, sound, room, after-traces}
@@ -150,12 +151,6 @@ cut-same from (end ∷ ends) last events events′ h within same =
     sym (take-take end last events low) ∙ ap (take end) same ∙ take-take end last events′ low in
     cc (ap (drop from) first, cut-same end ends last events events′ (r .rest) within same)
 
-pub all-below-append :
-    (n : ℕ) (xs ys : List ℕ) → all-below n xs ≡ true → all-below n ys ≡ true → all-below n (xs ++ ys) ≡ true
-all-below-append n [] ys h k = k
-all-below-append n (x ∷ xs) ys h k =
-    and-both (ltb x n) _ (and-left (ltb x n) _ h) (all-below-append n xs ys (and-right (ltb x n) _ h) k)
-
 -- ## What a sound memory keeps
 
 pub kept-length : (m : Memory) → sound m ≡ true → length (kept m) ≡ m .store .traces
@@ -229,7 +224,7 @@ module _ (m : Memory) (trace : List ℕ) (h : sound m ≡ true) (a : Addable m t
         has-ends = simp length-set (omega (arith, a .has-end));
         rises = rw kept-ends-added (rising-snoc 0 (kept-ends m) _ (s .rises) (omega arith) (omega (arith, a .short)));
         fits = rw last-end-added (simp length-sets (a .fits));
-        declared = rw (last-end-added, events-added) (all-below-append _ (take (last-end m) (m .events)) trace (s .declared) (a .declared));
+        declared = rw (last-end-added, events-added) (all-append _ (take (last-end m) (m .events)) trace (s .declared) (a .declared));
       })
 
   pub kept-added : kept (with-trace m trace) ≡ kept m ++ (trace ∷ [])

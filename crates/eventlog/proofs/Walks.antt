@@ -12,7 +12,7 @@ use lib.ListN.{length, getD, take, drop}
 use lib.Seq.{take-suc, drop-cons, take-all}
 use Rattle.eventlog.specs.Store.{longest-trace, last-from, rising, all-below}
 use Rattle.base.proofs.Bools.{and-both}
-use Rattle.eventlog.proofs.Laws.{all-below-append}
+use Rattle.base.proofs.Lists.{all-append}
 
 pub last-none : (ends : List ℕ) → length ends ≡ 0 → last-from 0 ends ≡ 0
 last-none [] h = refl
@@ -49,7 +49,7 @@ pub below-more :
     all-below n (take (i + 1) events) ≡ true
 below-more n events i within before here =
     rw (add-one, take-suc events i 0 within)
-    (all-below-append n (take i events) (getD events i 0 ∷ []) before (and-both _ _ (lt-ltb _ _ here) refl))
+    (all-append (λ x. ltb x n) (take i events) (getD events i 0 ∷ []) before (and-both _ _ (lt-ltb _ _ here) refl))
 
 pub not-all-below :
     (n : ℕ) (events : List ℕ) (i : ℕ) → i < length events → n ≤ getD events i 0 → all-below n events ≡ false

@@ -41,7 +41,7 @@ abbrev pub add-checks : ℕ → Room → List ℕ → List Check
 add-checks place r trace =
     (not (all-below (r .activities) trace) refuses 6 with place) ∷
     (ltb longest-trace (length trace) refuses 7 with 0) ∷
-    (full (r .traces) (r .ends) refuses 8 with 0) ∷
+    (full r refuses 8 with 0) ∷
     (lacks r (length trace) refuses 9 with 0) ∷
     []
 

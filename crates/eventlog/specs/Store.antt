@@ -7,6 +7,7 @@ use lib.Dec.{eqb, leb, ltb}
 use lib.ListN.{length, take}
 use lib.Seq.{slice}
 use denote.Ref.{RefT, now}
+use Rattle.base.specs.Lists.{all}
 use Rattle.eventlog.specs.declared.Room.{Room}
 use Rattle.eventlog.specs.declared.Store.{Store}
 
@@ -63,8 +64,7 @@ rising last [] = true
 rising last (end ∷ ends) = leb last end && (leb end (last + longest-trace) && rising end ends)
 
 abbrev pub all-below : ℕ → List ℕ → Bool
-all-below n [] = true
-all-below n (x ∷ xs) = ltb x n && all-below n xs
+all-below n xs = all (λ x. ltb x n) xs
 
 -- N is 1 to 32
 abbrev pub declarable : ℕ → Bool
@@ -105,8 +105,8 @@ after-traces r traces =
     }
 
 -- run count already 4095 or the ends slice's length
-abbrev pub full : ℕ → ℕ → Bool
-full traces ends = eqb traces most-traces || eqb traces ends
+abbrev pub full : Room → Bool
+full r = eqb (r .traces) most-traces || eqb (r .traces) (r .ends)
 
 -- steps don't fit, the last end plus the new steps being above the step buffer's length
 abbrev pub lacks : Room → ℕ → Bool

@@ -176,11 +176,11 @@ pub fn room_of(store: Store, events: &[u8], ends: &[u32]) -> Room
     }
 }
 
-// Whether no trace more can be kept beside so many, with so many places for ends.
-pub fn is_full(traces: u32, ends: usize) -> bool
-    ensures { λ r. ⌜ r ≡ full-test traces ends ⌝ }
+// Whether no trace more can be kept.
+pub fn is_full(room: Room) -> bool
+    ensures { λ r. ⌜ r ≡ full-test room ⌝ }
 {
-    traces == MOST_TRACES || traces as usize == ends
+    room.traces == MOST_TRACES || room.traces as usize == room.ends
 }
 
 fn refused(number: u8, detail: usize) -> AddAnswer
@@ -203,11 +203,11 @@ fn add_answer(store: Store, events: &[u8], ends: &[u32], trace: &[u8]) -> AddAns
     if (LONGEST_TRACE as usize) < trace.len() {
         return refused(TOO_LONG, 0);
     }
-    if is_full(store.traces, ends.len()) {
+    let room = room_of(store, events, ends);
+    if is_full(room) {
         return refused(FULL, 0);
     }
-    let last = last_end(store, ends) as usize;
-    if events.len() - last < trace.len() {
+    if room.events - (room.last as usize) < trace.len() {
         return refused(NO_SPACE, 0);
     }
     AddAnswer::Added

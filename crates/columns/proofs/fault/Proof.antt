@@ -1,9 +1,10 @@
 -- `fault` meets its contract: each return goes by the tests that led there.
 -- Assumes nothing.
-use mathlib.Core.Path.{_≡_, sym, _∙_}
+use mathlib.Core.Path.{_≡_, sym, ap, _∙_}
 use borrow.Author.Tests.{lt-ltb, le-ltb, le-leb, lt-leb, eq-eqb, ne-eqb}
 use borrow.Author.Needs.{needs}
 use Rattle.base.specs.Logic.{if_then_else_}
+use Rattle.eventlog.specs.Store.{full}
 use Rattle.columns.specs.Survey.{unplaced-of, fault-of}
 use Rattle.columns.proofs.fault.Statement.{statement}
 use Rattle.columns.proofs.fault.Tie as tie
@@ -24,18 +25,23 @@ returns-4 : tie.Need-returns-4
 returns-4 c =
     simp (le-ltb _ _ (c .before .before .before .before .before .before .before .if1 .left), lt-leb _ _ (c .before .before .before .before .before .if2 .left), eq-eqb _ _ (c .before .before .before .if3 .taken), ne-eqb _ _ (c .before .if4 .left)) (c .unplaced .ensures)
 
-add-is-full : tie.Need-add-is-full
-add-is-full c = search needs
+left-in-requires : tie.Need-left-in-requires
+left-in-requires c κs = search needs
 
 is-full-requires : tie.Need-is-full-requires
 is-full-requires c κs = search needs
 
 -- what the tests before that of the room say
 not-going : (c : tie.After-is-full) →
-    let args = c .before .before .before .before .before .before .before .before .before .args in
+    let args = c .before .before .before .before .before .before .before .before .args in
     fault-of (args .room) (args .p) (args .number) (args .activity) ≡ (if c .is-full .result then 8 else unplaced-of (args .room) (args .p))
 not-going c =
-    simp (le-ltb _ _ (c .before .before .before .before .before .before .before .if1 .left), lt-leb _ _ (c .before .before .before .before .before .if2 .left), ne-eqb _ _ (c .before .before .before .if3 .left), ← c .is-full .ensures)
+    simp (
+      le-ltb _ _ (c .before .before .before .before .before .before .if1 .left),
+      lt-leb _ _ (c .before .before .before .before .if2 .left),
+      ne-eqb _ _ (c .before .before .if3 .left),
+      ← (c .is-full .ensures ∙ ap full (c .before .left-in .ensures)),
+    )
 
 returns-5 : tie.Need-returns-5
 returns-5 c = sym (not-going (c .before) ∙ rw (c .if5 .taken))
@@ -55,7 +61,7 @@ fault-spec =
     returns-3
     unplaced-requires
     returns-4
-    add-is-full
+    left-in-requires
     is-full-requires
     returns-5
     unplaced-requires-2

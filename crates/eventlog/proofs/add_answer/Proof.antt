@@ -5,10 +5,10 @@ use mathlib.Core.Path.{_≡_, sym, ap, _∙_}
 use mathlib.Core.Bool.{true}
 use mathlib.Core.List.{List, []}
 use borrow.Author.Tests.{lt-ltb, le-ltb, not-true, not-false}
-use lib.ListN.{drop}
+use lib.ListN.{length, drop}
 use lib.Seq.{take-all}
 use Rattle.base.specs.Checks.{Check, reply}
-use Rattle.eventlog.specs.Store.{Memory, memory, sound, last-end, all-below}
+use Rattle.eventlog.specs.Store.{Memory, memory, sound, last-end, all-below, room, full}
 use Rattle.eventlog.specs.Calls.{checks-of-add, add-said}
 use Rattle.eventlog.proofs.Adding.{some-place, found-place, declared-answers}
 use Rattle.eventlog.proofs.Laws.{sound-facts}
@@ -16,12 +16,6 @@ use Rattle.eventlog.proofs.Walks.{not-all-below}
 use borrow.Author.Needs.{needs}
 use Rattle.eventlog.proofs.add_answer.Statement.{statement}
 use Rattle.eventlog.proofs.add_answer.Tie as tie
-
-room-short : (room last new : ℕ) → room - last < new → room < last + new
-room-short room last new h = omega arith
-
-room-enough : (room last new : ℕ) → last ≤ room → new ≤ room - last → last + new ≤ room
-room-enough room last new h k = omega arith
 
 abbrev given : tie.Start → Memory
 given c = memory (c .args .store) (c .args .events .now) (c .args .ends .now)
@@ -51,14 +45,16 @@ not-long :
 not-long c =
     simp (is-sound-yes (c .before .before .before), declared-yes (c .before), le-ltb _ _ (c .if3 .left))
 
+-- whether the store is full
+full-is : (c : tie.After-is-full) → full (room (given (start (c .before .before .before .before .before)))) ≡ c .is-full .result
+full-is c = sym (c .is-full .ensures ∙ ap full (c .before .room-of .ensures))
+
 -- past the check 8 too
 not-full :
     (c : tie.Else4) →
-    let checks = checks (start (c .before .before .before .before .before)) in
+    let checks = checks (start (c .before .before .before .before .before .before)) in
     reply checks [] ≡ reply (drop 4 checks) []
-not-full c =
-    let tested = c .before .is-full in
-    not-long (c .before .before) ∙ rw (sym (tested .ensures) ∙ c .if4 .left)
+not-full c = not-long (c .before .before .before) ∙ rw (full-is (c .before) ∙ c .if4 .left)
 
 is-sound-requires : tie.Need-is-sound-requires
 is-sound-requires c κs = search needs
@@ -112,6 +108,9 @@ returns-3 c =
     (ap add-said (c .refused3 .ensures)
     ∙ sym (simp (is-sound-yes (before .before .before), declared-yes before, lt-ltb _ _ (c .before .if3 .taken))))
 
+room-of-requires : tie.Need-room-of-requires
+room-of-requires c κs = search needs
+
 is-full-requires : tie.Need-is-full-requires
 is-full-requires c κs = search needs
 
@@ -121,38 +120,40 @@ refused-requires-4 c κs = search needs
 returns-4 : tie.Need-returns-4
 returns-4 c =
     let tested = c .before .before in
-    declared-answers _ _ _ (declared-yes (tested .before .before))
-    (ap add-said (c .refused4 .ensures)
-    ∙ sym (not-long (tested .before) ∙ rw (sym (tested .is-full .ensures) ∙ c .before .if4 .taken)))
+    declared-answers _ _ _ (declared-yes (tested .before .before .before))
+    (ap add-said (c .refused4 .ensures) ∙ sym (not-long (tested .before .before) ∙ rw (full-is tested ∙ c .before .if4 .taken)))
 
-last-end-requires : tie.Need-last-end-requires
-last-end-requires c κs = search needs
-
-cast-last : tie.Need-cast-last
-cast-last c = search needs
+cast-if5 : tie.Need-cast-if5
+cast-if5 c = search needs
 
 sub-if5 : tie.Need-sub-if5
-unfolding last-end
-sub-if5 c = omega (arith, c .last-end .ensures, sound-facts _ (is-sound-yes (c .before .before .before .before .before .before)) .fits)
+sub-if5 c =
+    let same = c .before .before .before .before .room-of .ensures in
+    omega (arith, ap (λ r. r .last) same, ap (λ r. r .events) same, sound-facts _ (is-sound-yes (c .before .before .before .before .before .before .before .before)) .fits)
 
 refused-requires-5 : tie.Need-refused-requires-5
 refused-requires-5 c κs = search needs
 
 returns-5 : tie.Need-returns-5
-unfolding last-end
 returns-5 c =
-    let before = c .before .before in
-    declared-answers _ _ _ (declared-yes (before .before .before .before .before))
+    let here = c .before .before in
+    let s = start (here .before .before .before .before .before .before .before .before) in
+    let m = given s in
+    let same = here .before .before .before .before .room-of .ensures in
+    declared-answers _ _ _ (declared-yes (here .before .before .before .before .before .before))
     (ap add-said (c .refused5 .ensures)
-    ∙ sym (not-full (before .before) ∙ simp (← before .last-end .ensures, lt-ltb _ _ (room-short _ _ _ (c .before .if5 .taken)))))
+    ∙ sym (not-full (here .before .before) ∙ rw (lt-ltb (length (m .events)) (last-end m + length (s .args .trace .now)) (omega (arith, c .before .if5 .taken, ap (λ r. r .last) same, ap (λ r. r .events) same)))))
 
 returns-6 : tie.Need-returns-6
-unfolding last-end
 returns-6 c =
-    declared-answers _ _ _ (declared-yes (c .before .before .before .before .before))
+    let here = c .before in
+    let s = start (here .before .before .before .before .before .before .before .before) in
+    let m = given s in
+    let same = here .before .before .before .before .room-of .ensures in
+    declared-answers _ _ _ (declared-yes (here .before .before .before .before .before .before))
     (sym
-    (not-full (c .before .before)
-    ∙ simp (← c .before .last-end .ensures, le-ltb _ _ (room-enough _ _ _ (sub-if5 (c .before)) (c .if5 .left)))))
+    (not-full (here .before .before)
+    ∙ rw (le-ltb (length (m .events)) (last-end m + length (s .args .trace .now)) (omega (arith, c .if5 .left, sub-if5 here, ap (λ r. r .last) same, ap (λ r. r .events) same)))))
 
 pub add-answer-spec : {M : Type 1} → statement M
 add-answer-spec =
@@ -168,11 +169,11 @@ add-answer-spec =
     cast-if3
     refused-requires-3
     returns-3
+    room-of-requires
     is-full-requires
     refused-requires-4
     returns-4
-    last-end-requires
-    cast-last
+    cast-if5
     sub-if5
     refused-requires-5
     returns-5
