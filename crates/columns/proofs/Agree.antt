@@ -121,8 +121,8 @@ module _ (o : Room) (place : ℕ) (line : Line) (more : List Check) (values : Li
           let some = numbered q in
           rw (
             q,
-            le-ltb (line .number) 0 (omega arith),
-            ne-eqb (line .number) 0 (λ z. omega arith),
+            le-ltb (line .number) (at-start o .number) (omega arith),
+            ne-eqb (line .number) (at-start o .number) (λ z. omega arith),
             no-room-same (o .events) (o .last + 0),
             add-zero (o .last),
           ))
