@@ -16,7 +16,7 @@ use Rattle.columns.specs.declared.Progress.{Progress}
 use Rattle.columns.specs.declared.Step.{Step}
 use Rattle.columns.specs.declared.ReadAnswer.{ReadAnswer}
 use Rattle.columns.specs.Log.{line-of, lines}
-use Rattle.columns.specs.Survey.{entry-of, Bounded, room-left, unplaced-of, fault-of, next-of, step-of, survey-of}
+use Rattle.columns.specs.Survey.{entry-of, Bounded, room-at, unplaced-of, fault-of, next-of, step-of, survey-of}
 use Rattle.base.proofs.Bools.{either, clash}
 use Rattle.columns.proofs.Lines.{lines-at, lines-end}
 
@@ -35,7 +35,7 @@ module _ (space : Room) (p : Progress) (w : Bounded space p) where
       (λ q. let z : _≡_ {A = ℕ} 9 0 = rw q at e in absurd (omega arith))
       (λ q. leb-false (space .events) (p .last) q)
 
-  not-full : full (room-left space p) ≡ false → (space .traces + p .added < most-traces) × (space .traces + p .added < space .ends)
+  not-full : full (room-at space p) ≡ false → (space .traces + p .added < most-traces) × (space .traces + p .added < space .ends)
   not-full e =
       let count = space .traces + p .added in
       either (eqb count most-traces)
@@ -57,7 +57,7 @@ module _ (space : Room) (p : Progress) (w : Bounded space p) where
       by :
           ltb number (p .number) ≡ false → leb (space .activities) activity ≡ false →
           (if eqb number (p .number) then if eqb (p .left) 0 then 7 else unplaced-of space p
-          else if full (room-left space p) then 8
+          else if full (room-at space p) then 8
           else unplaced-of space p) ≡ 0 → Faultless space p number activity
       by q r e =
           either (eqb number (p .number))
@@ -74,7 +74,7 @@ module _ (space : Room) (p : Progress) (w : Bounded space p) where
             placed = is-placed (rw (s, t) at e);
           }))
           (λ s.
-          either (full (room-left space p))
+          either (full (room-at space p))
           (λ t. let z : _≡_ {A = ℕ} 8 0 = rw (s, t) at e in absurd (omega arith))
           (λ t.
           record {

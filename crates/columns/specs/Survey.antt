@@ -30,8 +30,8 @@ pub record Bounded (r : Room) (p : Progress) : Type 0 where
   pub in-reach : p .last + p .left ≤ longest-trace * (r .traces + p .added)
 
 -- the room that is left so far
-abbrev pub room-left : Room → Progress → Room
-room-left r p =
+abbrev pub room-at : Room → Progress → Room
+room-at r p =
     record { activities = r .activities; traces = r .traces + p .added; last = p .last; events = r .events; ends = r .ends }
 
 abbrev pub unplaced-of : Room → Progress → ℕ
@@ -43,7 +43,7 @@ fault-of r p number activity =
     if ltb number (p .number) then 5
     else if leb (r .activities) activity then 6
     else if eqb number (p .number) then if eqb (p .left) 0 then 7 else unplaced-of r p
-    else if full (room-left r p) then 8
+    else if full (room-at r p) then 8
     else unplaced-of r p
 
 abbrev pub next-of : Progress → ℕ → Progress

@@ -13,7 +13,7 @@ ghost use Rattle.eventlog.specs.Store.{most-traces, longest-trace, lent, sound,
 ghost use Rattle.columns.specs.Field.{is-digit, field-of};
 ghost use Rattle.columns.specs.Scan.{scan-byte, finish, so-far};
 ghost use Rattle.columns.specs.Log.{line-of, lines, spelled};
-ghost use Rattle.columns.specs.Survey.{at-start, entry-of, Bounded, room-left, unplaced-of, fault-of, next-of, step-of, survey-of, accepted, moved, line-written, Writable, lines-written};
+ghost use Rattle.columns.specs.Survey.{at-start, entry-of, Bounded, room-at, unplaced-of, fault-of, next-of, step-of, survey-of, accepted, moved, line-written, Writable, lines-written};
 ghost use Rattle.columns.specs.Calls.{checks-of-read, with-traces, read-said, Reads};
 
 // Document 01's numbers of the refusals that come from here.
@@ -184,9 +184,9 @@ fn unplaced(room: Room, p: Progress) -> u8
 }
 
 // The room that is left so far.
-fn left_in(room: Room, p: Progress) -> Room
+fn room_at(room: Room, p: Progress) -> Room
     requires { ⌜ Bounded room p ⌝ }
-    ensures { λ r. ⌜ r ≡ room-left room p ⌝ }
+    ensures { λ r. ⌜ r ≡ room-at room p ⌝ }
 {
     Room {
         activities: room.activities,
@@ -214,7 +214,7 @@ fn fault(room: Room, p: Progress, number: u32, activity: u32) -> u8
         }
         return unplaced(room, p);
     }
-    if eventlog::is_full(left_in(room, p)) {
+    if eventlog::is_full(room_at(room, p)) {
         return eventlog::FULL;
     }
     unplaced(room, p)

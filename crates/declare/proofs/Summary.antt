@@ -136,16 +136,16 @@ next-after s before (x ∷ trace) =
 
 -- One law for the three: `ready` keeps up with a test of what came before, and each b that finds it false is noted in `bad`.
 module _ (a b : ℕ) (test : List ℕ → Bool) (ready bad : Summary → Bool)
-    (marks : (s : Summary) (x : ℕ) → s .b ≡ b → bad (stepped s x) ≡ bad s || (eqb x b && not (ready s)))
+    (catches : (s : Summary) (x : ℕ) → s .b ≡ b → bad (stepped s x) ≡ bad s || (eqb x b && not (ready s)))
     (keeps : (s : Summary) (x : ℕ) (before : List ℕ) → s .a ≡ a → s .b ≡ b → ready s ≡ test before
     → ready (stepped s x) ≡ test (before ++ (x ∷ []))) where
-  marked-after : (s : Summary) (before trace : List ℕ) → s .a ≡ a → s .b ≡ b → ready s ≡ test before
+  bad-after : (s : Summary) (before trace : List ℕ) → s .a ≡ a → s .b ≡ b → ready s ≡ test before
       → not (bad (after s trace)) ≡ not (bad s) && each-on before trace (λ before x after. eqb x b implies test before)
   unfolding agree
-  marked-after s before [] d e h = by-cases 1 (λ p. not p) (λ p. not p && true) refl (bad s)
-  marked-after s before (x ∷ trace) d e h =
-      marked-after (stepped s x) (before ++ (x ∷ [])) trace d e (keeps s x before d e h)
-      ∙ rw (marks s x e, h)
+  bad-after s before [] d e h = by-cases 1 (λ p. not p) (λ p. not p && true) refl (bad s)
+  bad-after s before (x ∷ trace) d e h =
+      bad-after (stepped s x) (before ++ (x ∷ [])) trace d e (keeps s x before d e h)
+      ∙ rw (catches s x e, h)
       (by-cases 4 (λ p is-b t r. not (p || (is-b && not t)) && r) (λ p is-b t r. not p && ((is-b implies t) && r)) refl
       (bad s)
       (eqb x b)
@@ -155,7 +155,7 @@ module _ (a b : ℕ) (test : List ℕ → Bool) (ready bad : Summary → Bool)
 early-after : (a b : ℕ) (trace : List ℕ) → not (after (no-event-yet a b) trace .early) ≡ precedence a b trace
 unfolding agree
 early-after a b trace =
-    marked-after a b (occurs a) (λ s. s .one) (λ s. s .early) (λ s x e. ap (λ (n : ℕ). s .early || (eqb x n && not (s .one))) e)
+    bad-after a b (occurs a) (λ s. s .one) (λ s. s .early) (λ s x e. ap (λ (n : ℕ). s .early || (eqb x n && not (s .one))) e)
     (λ s x before d e h.
     ap₂ (λ (p : Bool) (n : ℕ). p || eqb x n) h d
     ∙ by-cases 2 (λ p q. p || q) (λ p q. p || q) refl (occurs a before) (eqb x a)
@@ -165,7 +165,7 @@ early-after a b trace =
 bare-after : (a b : ℕ) (trace : List ℕ) → not (after (no-event-yet a b) trace .bare) ≡ alternate-precedence a b trace
 unfolding agree
 bare-after a b trace =
-    marked-after a b (λ before. some before (unanswered a b)) (λ s. s .owed) (λ s. s .bare)
+    bad-after a b (λ before. some before (unanswered a b)) (λ s. s .owed) (λ s. s .bare)
     (λ s x e. ap (λ (n : ℕ). s .bare || (eqb x n && not (s .owed))) e)
     (λ s x before d e h.
     ap (λ (p : Bool). eqb x (s .a) || (p && not (eqb x (s .b)))) h
@@ -176,7 +176,7 @@ bare-after a b trace =
 
 loose-after : (a b : ℕ) (trace : List ℕ) → not (after (no-event-yet a b) trace .loose) ≡ chain-precedence a b trace
 loose-after a b trace =
-    marked-after a b (ends-with a) (λ s. s .last) (λ s. s .loose) (λ s x e. ap (λ (n : ℕ). s .loose || (eqb x n && not (s .last))) e)
+    bad-after a b (ends-with a) (λ s. s .last) (λ s. s .loose) (λ s x e. ap (λ (n : ℕ). s .loose || (eqb x n && not (s .last))) e)
     (λ s x before d e h. ap (λ (n : ℕ). eqb x n) d ∙ sym (ends-snoc a x before))
     (no-event-yet a b) [] trace refl refl refl
 

@@ -60,7 +60,7 @@ marks-verdict word template =
 
 -- ## By the right tables
 
--- each entry of the table of next states leads to the summary after the event; it is one of the 185 states, so no other table does this
+-- each entry of the table of next states leads to the summary after the event, and is one of the 185 states
 pub record NextTable (next : List ℕ) : Type 0 where
   pub right :
       (state letter : ℕ) → state < 256 → letter < 4 →

@@ -18,7 +18,7 @@ use Rattle.columns.proofs.Traces.{activities-traces}
 use Rattle.discovery.specs.Constraints.{Question, asked}
 use Rattle.discovery.specs.Calls.{checks-of-find, find-checks, with-list}
 use Rattle.report.specs.Print.{refusal-line}
-use Rattle.report.specs.Report.{lent-events, lent-ends, lent-constraints, lent-list, room-lent, question-of, empty-store, filled-by}
+use Rattle.report.specs.Report.{lent-events, lent-ends, lent-constraints, lent-list, room-lent, log-question, empty-store, filled-by}
 use Rattle.report.specs.Puts.{Puts}
 use Rattle.report.specs.Stages.{text-of-find, then-find, text-from, PrintsFind, Prints}
 use Rattle.report.proofs.Puts.{put-same}
@@ -60,7 +60,7 @@ module _ (n threshold : ℕ) (log events ends : List ℕ) (declared : declarable
   checks = log-checks (room-lent n) log
 
   abbrev q : Question
-  q = question-of n threshold log
+  q = log-question n threshold log
 
   abbrev empty : Memory
   empty = empty-store n events ends

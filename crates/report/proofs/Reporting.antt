@@ -24,7 +24,7 @@ use Rattle.discovery.specs.Calls.{threshold-check}
 use Rattle.report.specs.declared.Settings.{Settings}
 use Rattle.report.specs.Print.{refusal-line}
 use Rattle.report.specs.Puts.{Puts}
-use Rattle.report.specs.Report.{most-input, settings-laid-out, log-of, room-lent, question-of, question-set}
+use Rattle.report.specs.Report.{most-input, settings-laid-out, log-of, room-lent, log-question, question-set}
 use Rattle.report.specs.Report.{checks-to-read, checks-of-report, output-of, memory-read, list-found, Reports}
 use Rattle.report.specs.Stages.{settings-of, Prints}
 use Rattle.report.proofs.Puts.{put-same}
@@ -123,7 +123,7 @@ module _ (input : List ℕ) {events ends list out : List ℕ} {written : ℕ} wh
 
     pub set-prints :
         (n threshold : ℕ) (log : List ℕ) {events′ ends′ list′ out′ : List ℕ} → settings-of input ≡ Settings.Set n threshold → log ≡ log-of input →
-        Prints (open-checks n ++ threshold-check threshold ∷ log-checks (room-lent n) log) (question-of n threshold log)
+        Prints (open-checks n ++ threshold-check threshold ∷ log-checks (room-lent n) log) (log-question n threshold log)
         events ends list out written events′ ends′ list′ out′ →
         Reports input events ends list out written events′ ends′ list′ out′
     unfolding checks-to-read

@@ -22,7 +22,7 @@ use Rattle.discovery.specs.Constraints.{Question, fulfilments, listed, replayed
 use Rattle.discovery.specs.Calls.{find-checks}
 use Rattle.discovery.proofs.Listing.{listed-exactly, replayed-at-most, listed-within-replayed}
 use Rattle.report.specs.Report.{most-input, lent-events, lent-ends, lent-list, log-of, activities-set, threshold-set}
-use Rattle.report.specs.Report.{question-of, question-set, room-lent, empty-store, checks-to-read, checks-of-report}
+use Rattle.report.specs.Report.{log-question, question-set, room-lent, empty-store, checks-to-read, checks-of-report}
 use Rattle.report.specs.Whole.{WholeLines, Whole}
 use Rattle.report.proofs.ReadPrinted.{filled}
 
@@ -137,9 +137,9 @@ module _ (n threshold : ℕ) (log : List ℕ) (declared : declarable n ≡ true)
   unfolding fulfilments
   fulfilled-few c = omega (arith, traces-few, count-at-most (fulfilled (c .template) (c .a) (c .b)) (spelled log))
 
-  whole-report : WholeLines (question-of n threshold log)
+  whole-report : WholeLines (log-question n threshold log)
   whole-report =
-      let q = question-of n threshold log in
+      let q = log-question n threshold log in
       let high = declared-range n declared .1 in
       record {
         constraints = omega (arith, listed-few q high);

@@ -52,11 +52,11 @@ abbrev pub log-of : List ℕ → List ℕ
 log-of input = drop 8 input
 
 -- what is asked over the traces that a log spells
-abbrev pub question-of : ℕ → ℕ → List ℕ → Question
-question-of n threshold log = record { activities = n; traces = spelled log; threshold = threshold }
+abbrev pub log-question : ℕ → ℕ → List ℕ → Question
+log-question n threshold log = record { activities = n; traces = spelled log; threshold = threshold }
 
 abbrev pub question-set : List ℕ → Question
-question-set input = question-of (activities-set input) (threshold-set input) (log-of input)
+question-set input = log-question (activities-set input) (threshold-set input) (log-of input)
 
 -- ## The order: 12, settings malformed or cut short (4, detail 0), 2, 3, then read, then find
 

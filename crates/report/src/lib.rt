@@ -19,7 +19,7 @@ ghost use Rattle.columns.specs.Field.{blank, line-feed, spell};
 ghost use Rattle.columns.specs.Log.{log-checks};
 ghost use Rattle.discovery.specs.Calls.{threshold-check};
 ghost use Rattle.report.specs.Print.{column-of, refusal-line, first-line, constraint-line};
-ghost use Rattle.report.specs.Report.{room-lent, question-of, Reports};
+ghost use Rattle.report.specs.Report.{room-lent, log-question, Reports};
 ghost use Rattle.report.specs.Puts.{Puts, line-at, lines-of};
 ghost use Rattle.report.specs.Stages.{both-set, settings-of, PrintsFind, Prints};
 
@@ -239,7 +239,7 @@ fn read_and_print(
 ) -> usize
     requires { ⌜ (declarable (store .activities) ≡ true) × (store .traces ≡ 0) ⌝ }
     ensures { λ r. ⌜ Prints (log-checks (room-lent (store .activities)) (now (log .entry)))
-        (question-of (store .activities) threshold (now (log .entry)))
+        (log-question (store .activities) threshold (now (log .entry)))
         (now (events .entry)) (now (ends .entry)) (now (list .entry)) (now (out .entry))
         r (now (events .exit)) (now (ends .exit)) (now (list .exit)) (now (out .exit)) ⌝ }
 {
@@ -263,7 +263,7 @@ fn check_threshold_and_print(
 ) -> usize
     requires { ⌜ (declarable (store .activities) ≡ true) × (store .traces ≡ 0) ⌝ }
     ensures { λ r. ⌜ Prints (threshold-check threshold ∷ log-checks (room-lent (store .activities)) (now (log .entry)))
-        (question-of (store .activities) threshold (now (log .entry)))
+        (log-question (store .activities) threshold (now (log .entry)))
         (now (events .entry)) (now (ends .entry)) (now (list .entry)) (now (out .entry))
         r (now (events .exit)) (now (ends .exit)) (now (list .exit)) (now (out .exit)) ⌝ }
 {
@@ -283,7 +283,7 @@ fn open_and_print(
     out: &mut [u8; OUT],
 ) -> usize
     ensures { λ r. ⌜ Prints (open-checks n ++ threshold-check threshold ∷ log-checks (room-lent n) (now (log .entry)))
-        (question-of n threshold (now (log .entry)))
+        (log-question n threshold (now (log .entry)))
         (now (events .entry)) (now (ends .entry)) (now (list .entry)) (now (out .entry))
         r (now (events .exit)) (now (ends .exit)) (now (list .exit)) (now (out .exit)) ⌝ }
 {

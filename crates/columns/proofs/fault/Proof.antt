@@ -25,8 +25,8 @@ returns-4 : tie.Need-returns-4
 returns-4 c =
     simp (le-ltb _ _ (c .before .before .before .before .before .before .before .if1 .left), lt-leb _ _ (c .before .before .before .before .before .if2 .left), eq-eqb _ _ (c .before .before .before .if3 .taken), ne-eqb _ _ (c .before .if4 .left)) (c .unplaced .ensures)
 
-left-in-requires : tie.Need-left-in-requires
-left-in-requires c κs = search needs
+room-at-requires : tie.Need-room-at-requires
+room-at-requires c κs = search needs
 
 is-full-requires : tie.Need-is-full-requires
 is-full-requires c κs = search needs
@@ -40,7 +40,7 @@ not-going c =
       le-ltb _ _ (c .before .before .before .before .before .before .if1 .left),
       lt-leb _ _ (c .before .before .before .before .if2 .left),
       ne-eqb _ _ (c .before .before .if3 .left),
-      ← (c .is-full .ensures ∙ ap full (c .before .left-in .ensures)),
+      ← (c .is-full .ensures ∙ ap full (c .before .room-at .ensures)),
     )
 
 returns-5 : tie.Need-returns-5
@@ -61,7 +61,7 @@ fault-spec =
     returns-3
     unplaced-requires
     returns-4
-    left-in-requires
+    room-at-requires
     is-full-requires
     returns-5
     unplaced-requires-2
