@@ -2,7 +2,7 @@
 use Prim.Native.Nat.{_≤_}
 use mathlib.Core.Path.{_≡_, sym, _∙_}
 use mathlib.Core.Logic.{⊎-elim}
-use mathlib.Core.Bool.{Bool, true, _&&_}
+use mathlib.Core.Bool.{Bool, true, false, _&&_}
 use lib.Dec.{leb}
 use lib.ListN.{length, take}
 use lib.Seq.{length-take-le}
@@ -20,7 +20,9 @@ returns : tie.Need-returns
 unfolding sound
 returns c =
     let tested = c .before .declarable in
-    rw (sym (tested .ensures) ∙ not-true (tested .result) (c .if1 .taken))
+    let out-of-range : declarable (c .before .before .before .before .args .store .activities) ≡ false =
+    sym (tested .ensures) ∙ not-true (tested .result) (c .if1 .taken) in
+    rw out-of-range
 
 abbrev given : tie.Else1 → Memory
 given c =

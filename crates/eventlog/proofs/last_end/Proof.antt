@@ -13,7 +13,9 @@ last-of-requires : tie.Need-last-of-requires
 last-of-requires c κs = search needs
 
 returns : tie.Need-returns
-returns c = rw (take-all _ _ (c .before .if1 .taken)) (c .last-of .ensures)
+returns c =
+    let args = c .before .before .before .args in
+    rw (take-all (args .store .traces) (args .ends .now) (c .before .if1 .taken)) (c .last-of .ensures)
 
 slice-aggregate-last-of : tie.Need-slice-aggregate-last-of
 slice-aggregate-last-of c = sym (length-take-le _ _ (le-of-lt (c .before .if1 .left)))
