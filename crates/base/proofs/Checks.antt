@@ -89,6 +89,17 @@ pub outcome-append : (checks more : List Check) → outcome (checks ++ more) ≡
 outcome-append [] more = refl
 outcome-append (c ∷ checks) more = either (c .fails) (λ h. rw h) (λ h. rw h (outcome-append checks more))
 
+-- behind checks that pass the others decide
+module _ (more : List Check) where
+  pub reply-after : (checks : List Check) (values : List ℕ) → None-fail checks → reply (checks ++ more) values ≡ reply more values
+  reply-after [] values n = refl
+  reply-after (c ∷ checks) values n = rw (n .0) (reply-after checks values (n .1))
+
+  pub left-after :
+      {A : Type 0} (checks : List Check) (new old : A) → None-fail checks → when-passed (checks ++ more) new old ≡ when-passed more new old
+  left-after [] new old n = refl
+  left-after (c ∷ checks) new old n = rw (n .0) (left-after checks new old (n .1))
+
 abbrev pub Passed : List Check → Type 0
 Passed checks = outcome checks ≡ gives []
 

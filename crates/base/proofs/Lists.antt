@@ -1,14 +1,13 @@
 -- Laws of lists: all, filter, count, range, flat map, equality, and parts.
 -- Assumes nothing.
 use Prim.Native.Nat.{ℕ, zero, suc, _+_, _-_, _≤_, _<_}
-use native.Mathlib.Numerals.{add-one}
 use native.Mathlib.Omega.{arith}
 use native.Mathlib.Decide.{ℕ-discrete}
 use native.Mathlib.Nat.{zero-add, suc-add}
 use mathlib.Core.Path.{_≡_, refl, sym, ap, ap₂, subst, _∙_}
 use mathlib.Core.Logic.{_⊎_, inl, inr, ⊎-elim}
 use mathlib.Core.Bool.{Bool, true, false, not, true≢false, false≢true}
-use mathlib.Core.List.{List, [], _∷_, _++_, append-assoc, append-nil, List·Memᴰ, List·Memᴰ·head, List·Memᴰ·tail, List·Memᴰ·not-nil, List·Memᴰ·cases-cons, List·Memᴰ·append-cases, Memᴰ·append-left, Memᴰ·append-right, Sublistᴰ, Sublistᴰ·slnil, Sublistᴰ·cons, Sublistᴰ·cons-cons, List·Permᴰ, List·Permᴰ·nil, List·Permᴰ·cons, List·Permᴰ·swap, List·Permᴰ·trans}
+use mathlib.Core.List.{List, [], _∷_, _++_, append-assoc, List·Memᴰ, List·Memᴰ·head, List·Memᴰ·tail, List·Memᴰ·not-nil, List·Memᴰ·cases-cons, List·Memᴰ·append-cases, Memᴰ·append-left, Memᴰ·append-right, Sublistᴰ, Sublistᴰ·slnil, Sublistᴰ·cons, Sublistᴰ·cons-cons, List·Permᴰ, List·Permᴰ·nil, List·Permᴰ·cons, List·Permᴰ·swap, List·Permᴰ·trans}
 use lib.ListN.{length, take, drop, length-append}
 use lib.Seq.{slice, take-nil}
 use Rattle.base.specs.Logic.{if_then_else_}
@@ -194,18 +193,3 @@ member-range x first (suc more) low high = go (ℕ-discrete x first) (member-ran
 pub range-length : (first more : ℕ) → length (range first more) ≡ more
 range-length first zero = refl
 range-length first (suc more) = ap suc (range-length (suc first) more)
-
-range-snoc : (first more : ℕ) → range first (suc more) ≡ range first more ++ ((first + more) ∷ [])
-range-snoc first zero = ap (λ (x : ℕ). x ∷ []) (omega arith)
-range-snoc first (suc more) =
-    ap (λ (l : List ℕ). first ∷ l)
-    (range-snoc (suc first) more ∙ ap (λ (x : ℕ). range (suc first) more ++ (x ∷ [])) (omega arith))
-
-pub flat-map-snoc :
-    {B : Type 0} (f : ℕ → List B) (first more : ℕ) →
-    flat-map (range first (more + 1)) f ≡ flat-map (range first more) f ++ f (first + more)
-flat-map-snoc {B} f first more =
-    ap (λ (k : ℕ). flat-map (range first k) f) (add-one more)
-    ∙ ap (λ (l : List ℕ). flat-map l f) (range-snoc first more)
-    ∙ flat-map-append f (range first more) ((first + more) ∷ [])
-    ∙ ap (λ (l : List B). flat-map (range first more) f ++ l) (append-nil (f (first + more)))

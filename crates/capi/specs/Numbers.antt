@@ -2,25 +2,23 @@
 -- Assumes nothing.
 use Prim.Native.Nat.{ℕ}
 use mathlib.Core.Path.{_≡_}
-use mathlib.Core.Bool.{false}
 use mathlib.Core.List.{List, [], _∷_, _++_}
-use lib.ListN.{length, getD, take}
+use lib.ListN.{getD, take}
 use denote.Ref.{RefT, now}
+use Rattle.base.specs.Checks.{Reply, gives, refused}
 use Rattle.eventlog.specs.declared.Store.{Store}
-use Rattle.base.specs.Checks.{Reply, gives, refused, reply, when-passed}
-use Rattle.eventlog.specs.Store.{Memory, memory, all-below}
-use Rattle.eventlog.specs.Calls.{open-checks, Undeclared, checks-of-add, with-trace}
-use Rattle.columns.specs.Log.{spelled}
-use Rattle.columns.specs.Calls.{checks-of-read, with-traces}
-use Rattle.discovery.specs.Constraints.{asked}
-use Rattle.discovery.specs.Calls.{checks-of-find, find-values, with-list}
+use Rattle.eventlog.specs.declared.OpenAnswer.{OpenAnswer}
+use Rattle.eventlog.specs.declared.AddAnswer.{AddAnswer}
+use Rattle.columns.specs.declared.ReadAnswer.{ReadAnswer}
+use Rattle.discovery.specs.declared.FindAnswer.{FindAnswer}
+use Rattle.eventlog.specs.Store.{Memory, memory}
+use Rattle.eventlog.specs.Calls.{Opens, open-said, Adds, add-said}
+use Rattle.columns.specs.Calls.{Reads, read-said}
+use Rattle.discovery.specs.Calls.{Finds, find-said}
 
--- the record of two numbers: how many activities are declared, and how many traces are kept
+-- the record of two numbers, which are all that an array of two holds: how many activities are declared, and how many traces are kept
 abbrev pub store-of : List ℕ → Store
 store-of numbers = record { activities = getD numbers 0 0; traces = getD numbers 1 0 }
-
-abbrev pub numbers-of : Store → List ℕ
-numbers-of store = store .activities ∷ store .traces ∷ []
 
 -- the memory of what stands behind three references, that of the record first
 abbrev pub lent-numbers : RefT (List ℕ) → RefT (List ℕ) → RefT (List ℕ) → Memory
@@ -41,30 +39,35 @@ pub record Replied (said : Reply) (number : ℕ) (answer : List ℕ) : Type 0 wh
   pub returns : number ≡ number-of said
   pub answers : answer ≡ answer-of said
 
--- `budgieleaf_open` returns so, and leaves these numbers of the record
-pub record OpenCalled (n : ℕ) (store : List ℕ) (number : ℕ) (store′ : List ℕ) : Type 0 where
-  pub returns : number ≡ number-of (reply (open-checks n) (n ∷ 0 ∷ []))
-  pub leaves : store′ ≡ when-passed (open-checks n) (n ∷ 0 ∷ []) store
+-- Each call is the call itself in the memory that the numbers make, in the words of its own contract, with its answer told in numbers;
+-- m′ is the memory that they make when it returns.
 
--- a record and two buffers hold what a memory does
-pub record Holds (m : Memory) (store events ends : List ℕ) : Type 0 where
-  pub record-of : store ≡ numbers-of (m .store)
-  pub events-of : events ≡ m .events
-  pub ends-of : ends ≡ m .ends
+-- what stands in the record's place after an open: a refused one leaves the numbers there were
+abbrev pub opened : List ℕ → Reply → List ℕ
+opened numbers (gives values) = values
+opened numbers (refused number detail) = numbers
 
--- `budgieleaf_add`; only the place in refusal 6 is free
-pub record AddCalled (m : Memory) (trace : List ℕ) (number : ℕ) (store events ends answer : List ℕ) : Type 0 where
-  pub place : ℕ
-  pub free : all-below (m .store .activities) trace ≡ false → Undeclared (m .store .activities) trace place
-  pub replied : Replied (reply (checks-of-add place m trace) []) number answer
-  pub leaves : Holds (when-passed (checks-of-add place m trace) (with-trace m trace) m) store events ends
+-- `budgieleaf_open`, which hands back no detail
+pub record OpenCalled (n : ℕ) (numbers : List ℕ) (number : ℕ) (numbers′ : List ℕ) : Type 0 where
+  pub said : OpenAnswer
+  pub opens : Opens n said
+  pub returns : number ≡ number-of (open-said said)
+  pub leaves : numbers′ ≡ opened numbers (open-said said)
+
+-- `budgieleaf_add`
+pub record AddCalled (m : Memory) (trace : List ℕ) (number : ℕ) (m′ : Memory) (answer : List ℕ) : Type 0 where
+  pub said : AddAnswer
+  pub adds : Adds m trace said m′
+  pub replied : Replied (add-said said) number answer
 
 -- `budgieleaf_read`
-pub record ReadCalled (m : Memory) (log : List ℕ) (number : ℕ) (store events ends answer : List ℕ) : Type 0 where
-  pub replied : Replied (reply (checks-of-read m log) (length (spelled log) ∷ [])) number answer
-  pub leaves : Holds (when-passed (checks-of-read m log) (with-traces m (spelled log)) m) store events ends
+pub record ReadCalled (m : Memory) (log : List ℕ) (number : ℕ) (m′ : Memory) (answer : List ℕ) : Type 0 where
+  pub said : ReadAnswer
+  pub reads : Reads m log said m′
+  pub replied : Replied (read-said said) number answer
 
 -- `budgieleaf_find`
 pub record FindCalled (m : Memory) (threshold : ℕ) (list : List ℕ) (number : ℕ) (list′ answer : List ℕ) : Type 0 where
-  pub replied : Replied (reply (checks-of-find m threshold list) (find-values (asked m threshold))) number answer
-  pub leaves : list′ ≡ when-passed (checks-of-find m threshold list) (with-list (asked m threshold) list) list
+  pub said : FindAnswer
+  pub finds : Finds m threshold list said list′
+  pub replied : Replied (find-said said) number answer

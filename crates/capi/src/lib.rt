@@ -7,22 +7,29 @@ use eventlog::Refusal;
 use eventlog::Store;
 ghost use mathlib.Core.Path.{_≡_};
 ghost use mathlib.Core.List.{[], _∷_};
+ghost use Rattle.base.specs.Checks.{refused};
 ghost use Rattle.eventlog.specs.Store.{sound};
-ghost use Rattle.capi.specs.Numbers.{store-of, numbers-of, lent-numbers, OpenCalled, AddCalled, ReadCalled, FindCalled};
-
-fn store_in(numbers: &[u32; 2]) -> Store
-    ensures { λ r. ⌜ r ≡ store-of (now (numbers .entry)) ⌝ }
-{
-    Store {
-        activities: numbers[0],
-        traces: numbers[1],
-    }
-}
+ghost use Rattle.eventlog.specs.Calls.{open-said, add-said};
+ghost use Rattle.columns.specs.Calls.{read-said};
+ghost use Rattle.discovery.specs.Calls.{find-said};
+ghost use Rattle.capi.specs.Numbers.{lent-numbers, number-of, Replied, opened, OpenCalled, AddCalled, ReadCalled, FindCalled};
 
 fn put_store(numbers: &mut [u32; 2], store: Store)
-    ensures { λ _. ⌜ now (numbers .exit) ≡ numbers-of store ⌝ }
+    ensures { λ _. ⌜ now (numbers .exit) ≡ store .activities ∷ store .traces ∷ [] ⌝ }
 {
     *numbers = [store.activities, store.traces];
+}
+
+fn put_opened(store: &mut [u32; 2], said: OpenAnswer) -> u32
+    ensures { λ r. ⌜ (r ≡ number-of (open-said said)) × (now (store .exit) ≡ opened (now (store .entry)) (open-said said)) ⌝ }
+{
+    match said {
+        OpenAnswer::Opened(new) => {
+            put_store(store, new);
+            0
+        }
+        OpenAnswer::Refused(refusal) => refusal.number as u32,
+    }
 }
 
 fn put_answer(answer: &mut [u64; 3], first: u64, second: u64, third: u64)
@@ -32,30 +39,72 @@ fn put_answer(answer: &mut [u64; 3], first: u64, second: u64, third: u64)
 }
 
 fn put_refusal(answer: &mut [u64; 3], refusal: Refusal) -> u32
-    ensures { λ r. ⌜ (r ≡ refusal .number) × (now (answer .exit) ≡ refusal .detail ∷ 0 ∷ 0 ∷ []) ⌝ }
+    ensures { λ r. ⌜ Replied (refused (refusal .number) (refusal .detail)) r (now (answer .exit)) ⌝ }
 {
     put_answer(answer, refusal.detail as u64, 0, 0);
     refusal.number as u32
+}
+
+fn put_added(answer: &mut [u64; 3], said: AddAnswer) -> u32
+    ensures { λ r. ⌜ Replied (add-said said) r (now (answer .exit)) ⌝ }
+{
+    match said {
+        AddAnswer::Added => {
+            put_answer(answer, 0, 0, 0);
+            0
+        }
+        AddAnswer::Refused(refusal) => put_refusal(answer, refusal),
+    }
+}
+
+fn put_read(answer: &mut [u64; 3], said: ReadAnswer) -> u32
+    ensures { λ r. ⌜ Replied (read-said said) r (now (answer .exit)) ⌝ }
+{
+    match said {
+        ReadAnswer::Added(traces) => {
+            put_answer(answer, traces as u64, 0, 0);
+            0
+        }
+        ReadAnswer::Refused(refusal) => put_refusal(answer, refusal),
+    }
+}
+
+fn put_found(answer: &mut [u64; 3], said: FindAnswer) -> u32
+    ensures { λ r. ⌜ Replied (find-said said) r (now (answer .exit)) ⌝ }
+{
+    match said {
+        FindAnswer::Listed(found) => {
+            put_answer(
+                answer,
+                found.constraints as u64,
+                found.replayed as u64,
+                found.traces as u64,
+            );
+            0
+        }
+        FindAnswer::Refused(refusal) => put_refusal(answer, refusal),
+    }
 }
 
 #[no_mangle]
 pub extern "C" fn budgieleaf_open(n: u32, store: &mut [u32; 2]) -> u32
     ensures { λ r. ⌜ OpenCalled n (now (store .entry)) r (now (store .exit)) ⌝ }
 {
-    match eventlog::open(n) {
-        OpenAnswer::Opened(opened) => {
-            put_store(store, opened);
-            0
-        }
-        OpenAnswer::Refused(refusal) => refusal.number as u32,
-    }
+    put_opened(store, eventlog::open(n))
 }
+
+// These calls make the record of its two numbers, and take it apart, in place: then what they promise of the memory is what the call below
+// promises, as it stands, and a helper's contract would stand between the two.
 
 #[no_mangle]
 pub extern "C" fn budgieleaf_is_sound(store: &[u32; 2], events: &[u8], ends: &[u32]) -> bool
     ensures { λ r. ⌜ r ≡ sound (lent-numbers (store .entry) (events .entry) (ends .entry)) ⌝ }
 {
-    eventlog::is_sound(store_in(store), events, ends)
+    let kept = Store {
+        activities: store[0],
+        traces: store[1],
+    };
+    eventlog::is_sound(kept, events, ends)
 }
 
 #[no_mangle]
@@ -67,19 +116,17 @@ pub extern "C" fn budgieleaf_add(
     answer: &mut [u64; 3],
 ) -> u32
     ensures { λ r. ⌜ AddCalled (lent-numbers (store .entry) (events .entry) (ends .entry)) (now (trace .entry))
-        r (now (store .exit)) (now (events .exit)) (now (ends .exit)) (now (answer .exit)) ⌝ }
+        r (lent-numbers (store .exit) (events .exit) (ends .exit)) (now (answer .exit)) ⌝ }
 {
-    let result = eventlog::add(store_in(store), events, ends, trace);
+    let kept = Store {
+        activities: store[0],
+        traces: store[1],
+    };
+    let result = eventlog::add(kept, events, ends, trace);
     let after = result.store;
-    put_store(store, after);
+    *store = [after.activities, after.traces];
     let said = result.answer;
-    match said {
-        AddAnswer::Added => {
-            put_answer(answer, 0, 0, 0);
-            0
-        }
-        AddAnswer::Refused(refusal) => put_refusal(answer, refusal),
-    }
+    put_added(answer, said)
 }
 
 #[no_mangle]
@@ -91,19 +138,17 @@ pub extern "C" fn budgieleaf_read(
     answer: &mut [u64; 3],
 ) -> u32
     ensures { λ r. ⌜ ReadCalled (lent-numbers (store .entry) (events .entry) (ends .entry)) (now (log .entry))
-        r (now (store .exit)) (now (events .exit)) (now (ends .exit)) (now (answer .exit)) ⌝ }
+        r (lent-numbers (store .exit) (events .exit) (ends .exit)) (now (answer .exit)) ⌝ }
 {
-    let result = columns::read(store_in(store), events, ends, log);
+    let kept = Store {
+        activities: store[0],
+        traces: store[1],
+    };
+    let result = columns::read(kept, events, ends, log);
     let after = result.store;
-    put_store(store, after);
+    *store = [after.activities, after.traces];
     let said = result.answer;
-    match said {
-        ReadAnswer::Added(traces) => {
-            put_answer(answer, traces as u64, 0, 0);
-            0
-        }
-        ReadAnswer::Refused(refusal) => put_refusal(answer, refusal),
-    }
+    put_read(answer, said)
 }
 
 #[no_mangle]
@@ -118,16 +163,9 @@ pub extern "C" fn budgieleaf_find(
     ensures { λ r. ⌜ FindCalled (lent-numbers (store .entry) (events .entry) (ends .entry)) threshold (now (list .entry))
         r (now (list .exit)) (now (answer .exit)) ⌝ }
 {
-    match discovery::find(store_in(store), events, ends, threshold, list) {
-        FindAnswer::Listed(found) => {
-            put_answer(
-                answer,
-                found.constraints as u64,
-                found.replayed as u64,
-                found.traces as u64,
-            );
-            0
-        }
-        FindAnswer::Refused(refusal) => put_refusal(answer, refusal),
-    }
+    let kept = Store {
+        activities: store[0],
+        traces: store[1],
+    };
+    put_found(answer, discovery::find(kept, events, ends, threshold, list))
 }

@@ -16,7 +16,7 @@ use Rattle.base.specs.Checks.{Check, _refuses_with_, Reply, gives, refused, rep
 use Rattle.eventlog.specs.declared.Room.{Room}
 use Rattle.eventlog.specs.Store.{longest-trace, total, all-below, after-traces, full}
 use Rattle.columns.specs.declared.Progress.{Progress}
-use Rattle.columns.specs.Field.{line-feed, well-formed, value}
+use Rattle.fields.specs.Field.{line-feed, well-formed, value}
 use Rattle.columns.specs.Log.{Line, line-of, lines-within, lines, Before, nothing-read, with-line, last?, length-of, extend-last, line-checks, log-checks-from, spelled-from}
 use Rattle.columns.specs.Survey.{Bounded, fault-of, next-of, survey-of, accepted, at-start}
 use Rattle.columns.specs.Calls.{read-said}

@@ -1,5 +1,4 @@
 pub mod Agree
-pub mod Fields
 pub mod Laws
 pub mod LineSteps
 pub mod Lines

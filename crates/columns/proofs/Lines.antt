@@ -10,9 +10,9 @@ use lib.ListN.{length, getD, take, drop, length-take, length-drop, drop-of-lengt
 use lib.Seq.{slice, drop-drop}
 use Rattle.base.proofs.Lists.{take-drop}
 use borrow.Author.Tests.{le-leb, lt-leb, eq-eqb, ne-eqb}
-use Rattle.columns.specs.declared.Field.{Field}
+use Rattle.fields.specs.declared.Field.{Field}
 use Rattle.columns.specs.declared.Entry.{Entry}
-use Rattle.columns.specs.Field.{well-formed, value, field-of}
+use Rattle.fields.specs.Field.{well-formed, value, field-of}
 use Rattle.columns.specs.Log.{Line, line-of, lines-within, lines}
 use Rattle.columns.specs.Survey.{entry-of}
 use Rattle.base.proofs.Bools.{and-right, either}

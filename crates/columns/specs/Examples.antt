@@ -1,22 +1,11 @@
--- Some fields and logs, computed from the definitions.
+-- Some logs, computed from the definitions.
 -- Assumes nothing.
 use Prim.Native.Nat.{ℕ}
 use mathlib.Core.Path.{_≡_, refl}
-use mathlib.Core.Bool.{false}
 use mathlib.Core.List.{List, [], _∷_}
 use Rattle.base.specs.Checks.{gives, refused, reply}
 use Rattle.eventlog.specs.Store.{Memory, last-end, room}
-use Rattle.columns.specs.Field.{well-formed, spell}
 use Rattle.columns.specs.Log.{lines, log-checks, spelled}
-
--- "   407" and "  0"
-fields : (spell 6 407 ≡ 32 ∷ 32 ∷ 32 ∷ 52 ∷ 48 ∷ 55 ∷ []) × (spell 3 0 ≡ 32 ∷ 32 ∷ 48 ∷ [])
-unfolding spell
-fields = (refl, refl)
-
--- "4 7" and "007" are no fields
-no-fields : (well-formed (52 ∷ 32 ∷ 55 ∷ []) ≡ false) × (well-formed (48 ∷ 48 ∷ 55 ∷ []) ≡ false)
-no-fields = (refl, refl)
 
 -- "     1  0", "     1  1" and "    12  1", each with its line feed
 a-log : List ℕ

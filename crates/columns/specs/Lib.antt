@@ -1,6 +1,4 @@
 pub mod Calls
 pub mod Examples
-pub mod Field
 pub mod Log
-pub mod Scan
 pub mod Survey

@@ -11,7 +11,7 @@ use Rattle.base.specs.Logic.{if_then_else_}
 use Rattle.base.specs.Checks.{Check, _refuses_with_}
 use Rattle.eventlog.specs.declared.Room.{Room}
 use Rattle.eventlog.specs.Store.{longest-trace, after-traces, full, lacks}
-use Rattle.columns.specs.Field.{line-feed, well-formed, value}
+use Rattle.fields.specs.Field.{line-feed, well-formed, value}
 
 -- A line of a log: whether it is laid out as one, its trace number (document 01: run number) and its activity.
 pub record Line : Type 0 where

@@ -1,8 +1,9 @@
-// Logs in columns: fields, lines, read.
+// Logs in columns: lines, read.
 use eventlog::LONGEST_TRACE;
 use eventlog::Refusal;
 use eventlog::Room;
 use eventlog::Store;
+use fields::Field;
 ghost use Prim.Native.Nat.{_*_, _≤_, _<_};
 ghost use mathlib.Core.Path.{_≡_};
 ghost use mathlib.Core.Bool.{true};
@@ -10,8 +11,6 @@ ghost use mathlib.Core.List.{_∷_, []};
 ghost use lib.ListN.{length, take, drop};
 ghost use Rattle.base.specs.Checks.{gives, reply};
 ghost use Rattle.eventlog.specs.Store.{most-traces, longest-trace, lent, sound, room as room-in};
-ghost use Rattle.columns.specs.Field.{is-digit, field-of};
-ghost use Rattle.columns.specs.Scan.{scan-byte, finish, so-far};
 ghost use Rattle.columns.specs.Log.{line-of, lines, spelled};
 ghost use Rattle.columns.specs.Survey.{at-start, entry-of, Bounded, room-at, unplaced-of, fault-of, next-of, step-of, survey-of, accepted, moved, line-written, Writable, lines-written};
 ghost use Rattle.columns.specs.Calls.{checks-of-read, with-traces, read-said, Reads};
@@ -31,97 +30,8 @@ pub struct ReadResult {
     pub answer: ReadAnswer,
 }
 
-// What a field of columns holds.
-pub enum Field {
-    Number(u32),
-    Malformed,
-}
-
-// How far a field is read: blanks alone so far, or digits with the value so far, or no field.
-enum Scan {
-    Blanks,
-    Digits(u32),
-    Broken,
-}
-
-fn is_digit(byte: u8) -> bool
-    ensures { λ r. ⌜ r ≡ is-digit byte ⌝ }
-{
-    48 <= byte && byte <= 57
-}
-
-// A column behind blanks alone.
-fn first_column(byte: u8) -> Scan
-    ensures { λ r. ⌜ r ≡ scan-byte Scan.Blanks byte ⌝ }
-{
-    if byte == BLANK {
-        return Scan::Blanks;
-    }
-    if is_digit(byte) {
-        Scan::Digits((byte - 48) as u32)
-    } else {
-        Scan::Broken
-    }
-}
-
-// A column behind digits. Zero is one digit, so nothing may follow it.
-fn next_column(value: u32, byte: u8) -> Scan
-    requires { ⌜ value < 100000000 ⌝ }
-    ensures { λ r. ⌜ r ≡ scan-byte (Scan.Digits value) byte ⌝ }
-{
-    if value == 0 {
-        return Scan::Broken;
-    }
-    if is_digit(byte) {
-        Scan::Digits(value * 10 + (byte - 48) as u32)
-    } else {
-        Scan::Broken
-    }
-}
-
-fn column(scan: Scan, byte: u8) -> Scan
-    requires { ⌜ so-far scan < 100000000 ⌝ }
-    ensures { λ r. ⌜ r ≡ scan-byte scan byte ⌝ }
-{
-    match scan {
-        Scan::Blanks => first_column(byte),
-        Scan::Digits(value) => next_column(value, byte),
-        Scan::Broken => Scan::Broken,
-    }
-}
-
-fn finished(scan: Scan) -> Field
-    ensures { λ r. ⌜ r ≡ finish scan ⌝ }
-{
-    match scan {
-        Scan::Digits(value) => Field::Number(value),
-        Scan::Blanks => Field::Malformed,
-        Scan::Broken => Field::Malformed,
-    }
-}
-
-// The number in a field of at most nine columns, read from the left with the value so far.
-pub fn read_field(bytes: &[u8]) -> Field
-    ensures { λ r. ⌜ r ≡ field-of (now (bytes .entry)) ⌝ }
-{
-    if 9 < bytes.len() {
-        return Field::Malformed;
-    }
-    let mut scan = Scan::Blanks;
-    let mut i: usize = 0;
-    while i < bytes.len() {
-        scan = column(scan, bytes[i]);
-        i += 1;
-    }
-    finished(scan)
-}
-
 // A line's bytes, its line feed among them.
 pub const LINE: usize = 10;
-
-pub const LINE_FEED: u8 = 10;
-
-pub const BLANK: u8 = 32;
 
 // What a line of a log holds: a trace's number and one of its events.
 enum Entry {
@@ -132,16 +42,16 @@ enum Entry {
 fn read_line(bytes: &[u8]) -> Entry
     ensures { λ r. ⌜ r ≡ entry-of (line-of (now (bytes .entry))) ⌝ }
 {
-    if bytes.len() != LINE || bytes[9] != LINE_FEED {
+    if bytes.len() != LINE || bytes[9] != fields::LINE_FEED {
         return Entry::Malformed;
     }
-    let Field::Number(number) = read_field(&bytes[0..6]) else {
+    let Field::Number(number) = fields::read_field(&bytes[0..6]) else {
         return Entry::Malformed;
     };
     if number < 1 {
         return Entry::Malformed;
     }
-    let Field::Number(activity) = read_field(&bytes[6..9]) else {
+    let Field::Number(activity) = fields::read_field(&bytes[6..9]) else {
         return Entry::Malformed;
     };
     Entry::Event { number, activity }

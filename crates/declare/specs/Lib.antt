@@ -1,3 +1,5 @@
 pub mod Meaning
+pub mod Constraints
 pub mod Summary
 pub mod States
+pub mod Walk

@@ -1,6 +1,6 @@
 -- What the 24 templates mean on a trace of activities (document 01: a run of steps), after its section of that name.
 -- Assumes nothing.
-use Prim.Native.Nat.{ℕ, suc, _+_}
+use Prim.Native.Nat.{ℕ, suc}
 use mathlib.Core.Bool.{Bool, true, false, not, _&&_, _||_}
 use mathlib.Core.List.{List, [], _∷_, _++_}
 use lib.Dec.{eqb, leb}
@@ -50,55 +50,55 @@ ends-with a (x ∷ (y ∷ trace)) = ends-with a (y ∷ trace)
 abbrev pub Meaning : Type 0
 Meaning = ℕ → ℕ → List ℕ → Bool
 
--- 14: each a has a later b
+-- 14, Response: each a has a later b
 abbrev pub response : Meaning
 response a b trace = each trace (λ before x after. eqb x a implies occurs b after)
 
--- 15: each a has a later b with no a strictly between
+-- 15, Alternate Response: each a has a later b with no a strictly between
 abbrev pub alternate-response : Meaning
 alternate-response a b trace =
     each trace (λ before x after. eqb x a implies some after (λ between y rest. eqb y b && not (occurs a between)))
 
--- 16: each a has b as the very next step
+-- 16, Chain Response: each a has b as the very next step
 abbrev pub chain-response : Meaning
 chain-response a b trace = each trace (λ before x after. eqb x a implies starts-with b after)
 
--- 17: each b has an earlier a
+-- 17, Precedence: each b has an earlier a
 abbrev pub precedence : Meaning
 precedence a b trace = each trace (λ before x after. eqb x b implies occurs a before)
 
--- 18: each b has an earlier a with no b strictly between
+-- 18, Alternate Precedence: each b has an earlier a with no b strictly between
 abbrev pub alternate-precedence : Meaning
 alternate-precedence a b trace =
     each trace (λ before x after. eqb x b implies some before (λ start y between. eqb y a && not (occurs b between)))
 
--- 19: each b has a as the step just before
+-- 19, Chain Precedence: each b has a as the step just before
 abbrev pub chain-precedence : Meaning
 chain-precedence a b trace = each trace (λ before x after. eqb x b implies ends-with a before)
 
--- the templates in the order of their numbers, 1 to 24; w1 is the first step of a run, wm its last, m its length
+-- the templates in the order of their numbers, 1 to 24, with the field's names; w1 is the first step of a run, wm its last, m its length
 unfoldable pub meanings : List Meaning
 meanings =
-    -- 1 at least one a; 2 at least two; 3 at least three
+    -- Existence(1, 2, 3): 1 at least one a; 2 at least two; 3 at least three
     (λ a b trace. leb 1 (times a trace)) ∷
     (λ a b trace. leb 2 (times a trace)) ∷
     (λ a b trace. leb 3 (times a trace)) ∷
-    -- 4 none; 5 at most one; 6 at most two
+    -- Absence(1, 2, 3): 4 none; 5 at most one; 6 at most two
     (λ a b trace. leb (times a trace) 0) ∷
     (λ a b trace. leb (times a trace) 1) ∷
     (λ a b trace. leb (times a trace) 2) ∷
-    -- 7 m ≥ 1 and w1 = a; 8 m ≥ 1 and wm = a
+    -- Init, End: 7 m ≥ 1 and w1 = a; 8 m ≥ 1 and wm = a
     (λ a b trace. starts-with a trace) ∷
     (λ a b trace. ends-with a trace) ∷
-    -- 9 a or b occurs
+    -- Choice: 9 a or b occurs
     (λ a b trace. occurs a trace || occurs b trace) ∷
-    -- 10 exactly one of the two occurs
+    -- Exclusive Choice: 10 exactly one of the two occurs
     (λ a b trace. if occurs a trace then not (occurs b trace) else occurs b trace) ∷
-    -- 11 both occur or neither
+    -- Co-Existence: 11 both occur or neither
     (λ a b trace. if occurs a trace then occurs b trace else not (occurs b trace)) ∷
-    -- 12 not both occur
+    -- Not Co-Existence: 12 not both occur
     (λ a b trace. not (occurs a trace && occurs b trace)) ∷
-    -- 13 if a occurs, b occurs
+    -- Responded Existence: 13 if a occurs, b occurs
     (λ a b trace. occurs a trace implies occurs b trace) ∷
     -- 14 to 19
     response ∷
@@ -107,13 +107,13 @@ meanings =
     precedence ∷
     alternate-precedence ∷
     chain-precedence ∷
-    -- 20 is 14 and 17; 21 is 15 and 18; 22 is 16 and 19
+    -- Succession, Alternate and Chain: 20 is 14 and 17; 21 is 15 and 18; 22 is 16 and 19
     (λ a b trace. response a b trace && precedence a b trace) ∷
     (λ a b trace. alternate-response a b trace && alternate-precedence a b trace) ∷
     (λ a b trace. chain-response a b trace && chain-precedence a b trace) ∷
-    -- 23 no a has a later b
+    -- Not Succession: 23 no a has a later b
     (λ a b trace. each trace (λ before x after. eqb x a implies not (occurs b after))) ∷
-    -- 24 no a has b as the very next step
+    -- Not Chain Succession: 24 no a has b as the very next step
     (λ a b trace. each trace (λ before x after. eqb x a implies not (starts-with b after))) ∷
     []
 

@@ -1,6 +1,12 @@
-// DECLARE templates on one trace (document 01: a run): the replayer, and the verdict for a template and two activities.
+// DECLARE templates on one trace (document 01: a run): the replayer, and the verdict for a template and two activities. The constraints
+// of all templates, and the walk over them, are in a module that is public so that other crates can cite the laws below it.
+pub mod constraints;
 mod tables;
 
+pub use constraints::Constraint;
+pub use constraints::constraint_count;
+pub use constraints::first_constraint;
+pub use constraints::next_constraint;
 ghost use mathlib.Core.Path.{_≡_};
 ghost use Prim.Native.Nat.{_<_};
 ghost use lib.ListN.{getD};

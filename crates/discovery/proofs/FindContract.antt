@@ -1,6 +1,6 @@
 -- What find answers, check by check, and what passing over all constraints makes of the list.
 -- Assumes nothing.
-use Prim.Native.Nat.{ℕ, _+_, _*_, _/_, _≤_, _<_}
+use Prim.Native.Nat.{ℕ, _*_, _/_, _≤_, _<_}
 use mathlib.Core.Path.{_≡_, refl, sym, ap, _∙_}
 use mathlib.Core.Bool.{Bool, true, false}
 use mathlib.Core.List.{List, [], _∷_}
@@ -11,16 +11,17 @@ use lib.ListN.{length}
 use Rattle.base.specs.Logic.{if_then_else_}
 use Rattle.base.specs.Checks.{Reply, gives, refused, reply}
 use Rattle.base.proofs.Checks.{given-new, refused-old}
+use Rattle.base.proofs.Lists.{count-at-most}
 use Rattle.base.proofs.Stores.{sets-none}
 use Rattle.eventlog.specs.Store.{Memory, sound}
 use Rattle.eventlog.proofs.Laws.{kept-length}
 use Rattle.discovery.specs.declared.Fit.the-variants.{Fits, Short}
-use Rattle.discovery.specs.declared.Tally.{Tally}
+use Rattle.discovery.specs.declared.list.Tally.{Tally}
 use Rattle.discovery.specs.declared.FindAnswer.the-variants.{Listed, Refused}
-use Rattle.discovery.specs.Constraints.{Question, asked, constraints, listed, replayed}
+use Rattle.declare.specs.Constraints.{constraints}
+use Rattle.discovery.specs.Question.{Question, asked, is-listed, listed, replayed, numbers}
 use Rattle.discovery.specs.Calls.{Finds, in-range, checks-of-find, find-values, with-list}
 use Rattle.discovery.specs.Passes.{Passes, none-yet, fit-of}
-use Rattle.discovery.proofs.Listing.{replayed-at-most, listed-within-replayed}
 
 -- ## Passing over all constraints
 
@@ -44,29 +45,30 @@ module _ (q : Question) (list list′ : List ℕ) (t : Tally) (p : Passes q (con
 -- ## Whether the list fits
 
 module _ (k : ℕ) (list : List ℕ) where
-  pub list-fits : 4 * k ≤ length list → Fits ≡ fit-of k list
-  list-fits fits = rw (le-ltb (length list) (4 * k) fits)
+  pub list-fits : numbers * k ≤ length list → Fits ≡ fit-of k list
+  list-fits fits = rw (le-ltb (length list) (numbers * k) fits)
 
-  pub list-short : length list < 4 * k → Short k ≡ fit-of k list
-  list-short short = rw (lt-ltb (length list) (4 * k) short)
+  pub list-short : length list < numbers * k → Short k ≡ fit-of k list
+  list-short short = rw (lt-ltb (length list) (numbers * k) short)
 
-  pub fits-told : fit-of k list ≡ Fits → 4 * k ≤ length list
-  fits-told e = go (ltb (length list) (4 * k)) refl e
+  pub fits-told : fit-of k list ≡ Fits → numbers * k ≤ length list
+  fits-told e = go (ltb (length list) (numbers * k)) refl e
     where
-      go : (t : Bool) → ltb (length list) (4 * k) ≡ t → (if t then Short k else Fits) ≡ Fits → 4 * k ≤ length list
+      go : (t : Bool) → ltb (length list) (numbers * k) ≡ t → (if t then Short k else Fits) ≡ Fits → numbers * k ≤ length list
       go true h e = let z : _≡_ {A = ℕ} 0 1 = cc in absurd (omega arith)
       go false h e = ltb-false _ _ h
 
-  pub short-told : (needed : ℕ) → fit-of k list ≡ Short needed → (needed ≡ k) × (length list < 4 * k)
-  short-told needed e = go (ltb (length list) (4 * k)) refl e
+  pub short-told : (needed : ℕ) → fit-of k list ≡ Short needed → (needed ≡ k) × (length list < numbers * k)
+  short-told needed e = go (ltb (length list) (numbers * k)) refl e
     where
-      go : (t : Bool) → ltb (length list) (4 * k) ≡ t → (if t then Short k else Fits) ≡ Short needed → (needed ≡ k) × (length list < 4 * k)
+      go : (t : Bool) → ltb (length list) (numbers * k) ≡ t → (if t then Short k else Fits) ≡ Short needed → (needed ≡ k) × (length list < numbers * k)
       go true h e = (cc, ltb-true _ _ h)
       go false h e = let z : _≡_ {A = ℕ} 0 1 = cc in absurd (omega arith)
 
 -- room for all constraints is enough
-pub all-fit : (q : Question) (list : List ℕ) → 14 * q .activities * q .activities ≤ length list / 4 + 6 * q .activities → Fits ≡ fit-of (length (listed q)) list
-all-fit q list fits = list-fits _ list (omega (arith, replayed-at-most q, listed-within-replayed q))
+pub all-fit : (q : Question) (list : List ℕ) → length (constraints (q .activities)) ≤ length list / numbers → Fits ≡ fit-of (length (listed q)) list
+unfolding listed
+all-fit q list fits = list-fits _ list (omega (arith, count-at-most (is-listed q) (constraints (q .activities))))
 
 -- ## Answers
 
@@ -80,16 +82,16 @@ module _ (m : Memory) (threshold : ℕ) (list : List ℕ) where
   -- the first three checks passed, and so many constraints are to be listed
   module _ (h : sound m ≡ true) (good : in-range threshold ≡ true) (some : m .store .traces ≡ 0 → ⊥)
       (k : ℕ) (e : k ≡ length (listed (asked m threshold))) where
-    pub finds-short : length list < 4 * k → Finds m threshold list (Refused (record { number = 10; detail = k })) list
+    pub finds-short : length list < numbers * k → Finds m threshold list (Refused (record { number = 10; detail = k })) list
     finds-short short =
         finds-refused 10 k
         (rw e (simp (h, good, kept-length m h, ne-eqb (m .store .traces) 0 some, lt-ltb (length list) _ (rw e at short))))
 
-    says-listed : 4 * k ≤ length list → said ≡ gives (find-values (asked m threshold))
+    says-listed : numbers * k ≤ length list → said ≡ gives (find-values (asked m threshold))
     says-listed fits = simp (h, good, kept-length m h, ne-eqb (m .store .traces) 0 some, le-ltb (length list) _ (rw e at fits))
 
     pub finds-listed :
-        4 * k ≤ length list → (t : Tally) (list′ : List ℕ) →
+        numbers * k ≤ length list → (t : Tally) (list′ : List ℕ) →
         Passes (asked m threshold) (constraints (m .store .activities)) none-yet list t list′ →
         Finds m threshold list (Listed (record { constraints = t .listed; replayed = t .replayed; traces = m .store .traces })) list′
     finds-listed fits t list′ p =

@@ -12,9 +12,10 @@ use lib.Dec.{eqb}
 use lib.ListN.{length}
 use Rattle.base.specs.Logic.{if_then_else_}
 use Rattle.declare.specs.Meaning.{fulfilled}
-use Rattle.discovery.specs.declared.Constraint.{Constraint}
+use Rattle.declare.specs.declared.constraints.Constraint.{Constraint}
 use Rattle.base.specs.Lists.{filter, count, flat-map, equal-lists}
-use Rattle.discovery.specs.Constraints.{constraints, Question, trace-count, meets-threshold, fulfilments, class-of, support, always, survives, is-listed, listed, replayed, layout}
+use Rattle.declare.specs.Constraints.{constraints}
+use Rattle.discovery.specs.Question.{Question, trace-count, meets-threshold, fulfilments, class-of, support, always, survives, is-listed, listed, layout}
 use Rattle.discovery.specs.Claims.{Alike, AlikeQuestions}
 use Rattle.base.proofs.Lists.{equal-lists-same, equal-lists-refl, count-cons, permuted-length, permuted-count}
 
@@ -99,10 +100,6 @@ module _ (q q′ : Question) (alike : AlikeQuestions q q′) where
   pub listed-alike : listed q ≡ listed q′
   unfolding listed
   listed-alike = ap₂ (λ p n. filter p (constraints n)) is-listed-alike (alike .activities)
-
-  pub replayed-alike : replayed q ≡ replayed q′
-  unfolding replayed
-  replayed-alike = ap₂ (λ p n. count p (constraints n)) survives-alike (alike .activities)
 
   pub layout-alike : (cs : List Constraint) → layout q cs ≡ layout q′ cs
   unfolding layout

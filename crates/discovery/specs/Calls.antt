@@ -11,7 +11,7 @@ use Rattle.base.specs.Checks.{Check, _refuses_with_, Reply, gives, refused, rep
 use Rattle.eventlog.specs.Store.{Memory}
 use Rattle.eventlog.specs.Calls.{unsound}
 use Rattle.discovery.specs.declared.FindAnswer.{FindAnswer}
-use Rattle.discovery.specs.Constraints.{Question, asked, trace-count, listed, replayed, layout}
+use Rattle.discovery.specs.Question.{Question, asked, trace-count, listed, replayed, numbers, layout}
 
 -- a threshold of 1 to 1000
 abbrev pub in-range : ℕ → Bool
@@ -25,7 +25,7 @@ abbrev pub checks-for : ℕ → Question → List ℕ → List Check
 checks-for needed q list =
     threshold-check (q .threshold) ∷
     (eqb (trace-count q) 0 refuses 11 with 0) ∷
-    (ltb (length list) (4 * needed) refuses 10 with needed) ∷
+    (ltb (length list) (numbers * needed) refuses 10 with needed) ∷
     []
 
 abbrev pub find-checks : Question → List ℕ → List Check

@@ -7,7 +7,8 @@ use mathlib.Core.List.{List, [], _∷_}
 use Rattle.declare.specs.declared.Verdict.{Verdict}
 use Rattle.declare.specs.declared.Verdict.the-variants.{Fulfilled, NotActivated, Violated}
 use Rattle.declare.specs.Meaning.{meanings, holds, activated, fulfilled, verdict}
-use Rattle.discovery.specs.Constraints.{constraints, Question, meets, fulfilments, support, listed, replayed, layout}
+use Rattle.declare.specs.Constraints.{constraints}
+use Rattle.discovery.specs.Question.{Question, meets, fulfilments, support, listed, replayed, layout}
 use Rattle.discovery.specs.Calls.{find-values}
 
 abbrev pub question : ℕ → List (List ℕ) → ℕ → Question

@@ -1,5 +1,5 @@
 pub mod Calls
 pub mod Claims
-pub mod Constraints
+pub mod Question
 pub mod Examples
 pub mod Passes

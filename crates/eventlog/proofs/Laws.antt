@@ -7,9 +7,9 @@ use mathlib.Core.Path.{_≡_, refl, sym, ap, _∙_}
 use mathlib.Core.Bool.{true, _&&_}
 use mathlib.Core.List.{List, [], _∷_, _++_}
 use borrow.Author.Tests.{leb-true, le-leb}
-use lib.Dec.{leb, ltb}
+use lib.Dec.{leb}
 use lib.ListN.{length, take, drop, length-append, length-set}
-use lib.Seq.{slice, length-slice, length-sets, sets-eq, length-take-le, take-take, take-at, drop-at, take-suc-set}
+use lib.Seq.{slice, length-sets, sets-eq, length-take-le, take-take, take-at, drop-at, take-suc-set}
 use Rattle.base.proofs.Lists.{all-append}
 use Rattle.base.proofs.Bools.{and-left, and-right, and-both}
 use Rattle.eventlog.specs.Store.{most-activities, most-traces, longest-trace, declarable, Memory, memory, cut, kept, total}
@@ -119,15 +119,6 @@ pub cut-length : (from : ℕ) (ends events : List ℕ) → length (cut from ends
 cut-length from [] events = refl
 cut-length from (end ∷ ends) events = ap suc (cut-length end ends events)
 
-pub cut-total :
-    (from : ℕ) (ends events : List ℕ) → rising from ends ≡ true → last-from from ends ≤ length events →
-    from + total (cut from ends events) ≡ last-from from ends
-cut-total from [] events h fits = omega arith
-cut-total from (end ∷ ends) events h fits =
-    let r = rising-facts from end ends h in
-    let on = rises-on end ends (r .rest) in
-    omega (arith, cut-total end ends events (r .rest) fits, length-slice from end events (omega arith))
-
 pub total-append : (xs ys : List (List ℕ)) → total (xs ++ ys) ≡ total xs + total ys
 total-append [] ys = omega arith
 total-append (x ∷ xs) ys = omega (arith, total-append xs ys)
@@ -157,12 +148,6 @@ pub kept-length : (m : Memory) → sound m ≡ true → length (kept m) ≡ m .s
 unfolding kept
 kept-length m h =
     cut-length 0 (kept-ends m) (m .events) ∙ length-take-le _ _ (sound-facts m h .has-ends)
-
-pub kept-total : (m : Memory) → sound m ≡ true → total (kept m) ≡ last-end m
-unfolding kept last-end
-kept-total m h =
-    let s = sound-facts m h in
-    omega (arith, cut-total 0 (kept-ends m) (m .events) (s .rises) (s .fits))
 
 pub last-end-bound : (m : Memory) → sound m ≡ true → last-end m ≤ 4096 * m .store .traces
 unfolding last-end

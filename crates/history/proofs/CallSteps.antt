@@ -1,6 +1,6 @@
 -- A call beside a ledger whose traces are kept: it shows what the ledger says, and the ledger's traces are kept after it.
 -- Assumes nothing.
-use Prim.Native.Nat.{ℕ, _+_}
+use Prim.Native.Nat.{ℕ}
 use mathlib.Core.Path.{_≡_, refl, sym, ap, subst, subst₂, _∙_}
 use mathlib.Core.Bool.{false}
 use mathlib.Core.List.{List, [], _∷_, _++_}
@@ -19,7 +19,7 @@ use Rattle.columns.specs.declared.ReadAnswer.{ReadAnswer}
 use Rattle.columns.specs.Log.{log-checks, spelled}
 use Rattle.columns.specs.Calls.{checks-of-read, Reads}
 use Rattle.columns.proofs.ReadContract as reading
-use Rattle.discovery.specs.Constraints.{Question, asked}
+use Rattle.discovery.specs.Question.{Question, asked}
 use Rattle.discovery.specs.Calls.{find-checks, find-values, with-list}
 use Rattle.history.specs.Ledger.{Call, open-for, add, read, find, Shown, only, Ledger, first-ledger, room-beside, question, after, shows, with-all}
 use Rattle.history.specs.Histories.{Called, Fresh, opened, Free, Keeps}

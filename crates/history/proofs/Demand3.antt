@@ -7,10 +7,11 @@ use lib.ListN.{length, take, getElem?}
 use Rattle.base.specs.Checks.{gives}
 use Rattle.eventlog.specs.declared.Room.{Room}
 use Rattle.eventlog.specs.Store.{Memory, room}
-use Rattle.discovery.specs.declared.Constraint.{Constraint}
-use Rattle.discovery.specs.Constraints.{trace-count, layout}
-use Rattle.discovery.specs.Claims.{Exactly, AlikeQuestions}
-use Rattle.discovery.proofs.Listing.{exactly-one}
+use Rattle.declare.specs.declared.constraints.Constraint.{Constraint}
+use Rattle.discovery.specs.Question.{trace-count, layout}
+use Rattle.declare.specs.Constraints.{Exactly}
+use Rattle.discovery.specs.Claims.{AlikeQuestions}
+use Rattle.declare.proofs.constraints.Members.{exactly-one}
 use Rattle.discovery.proofs.Orderless.{trace-count-alike, is-listed-alike, survives-alike, layout-alike}
 use Rattle.history.specs.Ledger.{Call, open-for, add, read, find, Shown, Ledger, first-ledger, after}
 use Rattle.history.specs.Histories.{Called, Fresh, History, after-all, ledger-after, Agrees, Never-1, Keeps, FindIn, question-of, Right, Accepted, EqualFinds, FindAt, Demand3}

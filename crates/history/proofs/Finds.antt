@@ -10,8 +10,8 @@ use lib.Seq.{sets, sets-eq, take-at}
 use Rattle.base.specs.Checks.{gives, reply}
 use Rattle.base.proofs.Checks.{given-new, given-values, when-passed-same}
 use Rattle.eventlog.specs.declared.Room.{Room}
-use Rattle.discovery.specs.declared.Constraint.{Constraint}
-use Rattle.discovery.specs.Constraints.{Question, trace-count, layout, listed}
+use Rattle.declare.specs.declared.constraints.Constraint.{Constraint}
+use Rattle.discovery.specs.Question.{Question, trace-count, layout, listed}
 use Rattle.discovery.specs.Calls.{checks-for}
 use Rattle.discovery.proofs.Listing.{listed-exactly, replayed-exactly, replayed-at-most, layout-length}
 use Rattle.history.specs.Ledger.{find, Shown, Ledger, question, shows}

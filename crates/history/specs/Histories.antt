@@ -12,12 +12,13 @@ use Rattle.eventlog.specs.declared.OpenAnswer.{OpenAnswer}
 use Rattle.eventlog.specs.declared.AddAnswer.{AddAnswer}
 use Rattle.columns.specs.declared.ReadAnswer.{ReadAnswer}
 use Rattle.discovery.specs.declared.FindAnswer.{FindAnswer}
-use Rattle.discovery.specs.declared.Constraint.{Constraint}
+use Rattle.declare.specs.declared.constraints.Constraint.{Constraint}
 use Rattle.eventlog.specs.Store.{Memory, all-below, sound, kept, room}
 use Rattle.eventlog.specs.Calls.{Opens, open-said, Undeclared, Adds, add-said}
 use Rattle.columns.specs.Calls.{Reads, read-said}
-use Rattle.discovery.specs.Constraints.{Question, trace-count, is-listed, survives, layout}
-use Rattle.discovery.specs.Claims.{Exactly, AlikeQuestions}
+use Rattle.discovery.specs.Question.{Question, trace-count, is-listed, survives, layout}
+use Rattle.declare.specs.Constraints.{Exactly}
+use Rattle.discovery.specs.Claims.{AlikeQuestions}
 use Rattle.discovery.specs.Calls.{checks-for, Finds, find-said}
 use Rattle.history.specs.Ledger.{Call, open-for, add, read, find, Shown, only, Ledger, first-ledger, room-beside, question, after, shows}
 

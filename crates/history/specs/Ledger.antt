@@ -8,7 +8,7 @@ use Rattle.eventlog.specs.declared.Room.{Room}
 use Rattle.eventlog.specs.Store.{total}
 use Rattle.eventlog.specs.Calls.{open-checks, add-checks}
 use Rattle.columns.specs.Log.{log-checks, spelled}
-use Rattle.discovery.specs.Constraints.{Question}
+use Rattle.discovery.specs.Question.{Question}
 use Rattle.discovery.specs.Calls.{find-checks, find-values, with-list}
 
 -- A call, with what it brings: a step count, a trace, a log's bytes, or a threshold and what stands in the slice lent for the list.

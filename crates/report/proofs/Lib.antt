@@ -1,7 +1,6 @@
-pub mod Columns
-pub mod FindPrinted
+pub mod Deciding
 pub mod Puts
-pub mod ReadPrinted
+pub mod Reading
 pub mod Reporting
 pub mod SettingsLine
 pub mod Whole

@@ -6,6 +6,7 @@ use mathlib.Core.Path.{_≡_, refl, sym, ap, _∙_}
 use mathlib.Core.List.{List, _++_, append-nil, append-assoc}
 use lib.ListN.{length, drop, length-append}
 use lib.Seq.{length-sets, getD-drop}
+use Rattle.discovery.specs.Question.{numbers}
 use Rattle.report.specs.Puts.{Puts, line-at, lines-of}
 use Rattle.base.proofs.Stores.{sets-append}
 
@@ -34,16 +35,16 @@ put-same {at = at} e p =
 
 -- ## Lines of a list
 
-line-after : (k : ℕ) (list : List ℕ) → line-at k (drop 4 list) ≡ line-at (suc k) list
+line-after : (k : ℕ) (list : List ℕ) → line-at k (drop numbers list) ≡ line-at (suc k) list
 line-after k list =
-    let e : 4 + 4 * k ≡ 4 * suc k = omega arith in
-    let place : (i : ℕ) → 4 + (4 * k + i) ≡ 4 * suc k + i = λ i. omega arith in
-    simp (getD-drop 4 list, e, place)
+    let e : numbers + numbers * k ≡ numbers * suc k = omega arith in
+    let place : (i : ℕ) → numbers + (numbers * k + i) ≡ numbers * suc k + i = λ i. omega arith in
+    simp (getD-drop numbers list, e, place)
 
 -- the lines of one constraint more
 pub lines-more : (k : ℕ) (list : List ℕ) → lines-of (suc k) list ≡ lines-of k list ++ line-at k list
 lines-more zero list = append-nil (line-at 0 list)
 lines-more (suc k) list =
-    ap (λ (l : List ℕ). line-at 0 list ++ l) (lines-more k (drop 4 list))
-    ∙ sym (append-assoc (line-at 0 list) (lines-of k (drop 4 list)) (line-at k (drop 4 list)))
-    ∙ ap (λ (l : List ℕ). line-at 0 list ++ lines-of k (drop 4 list) ++ l) (line-after k list)
+    ap (λ (l : List ℕ). line-at 0 list ++ l) (lines-more k (drop numbers list))
+    ∙ sym (append-assoc (line-at 0 list) (lines-of k (drop numbers list)) (line-at k (drop numbers list)))
+    ∙ ap (λ (l : List ℕ). line-at 0 list ++ lines-of k (drop numbers list) ++ l) (line-after k list)

@@ -10,13 +10,13 @@ use lib.Dec.{eqb, leb}
 use lib.ListN.{length, getD, take, drop}
 use lib.Seq.{slice, length-slice}
 use Rattle.base.specs.Logic.{if_then_else_}
-use Rattle.base.proofs.Bools.{and-left}
+use Rattle.base.proofs.Bools.{and-left, either}
 use Rattle.base.proofs.Lists.{take-drop}
-use Rattle.columns.specs.declared.Field.{Field}
-use Rattle.columns.specs.Field.{line-feed, well-formed, value, widest, field-of}
+use Rattle.fields.specs.declared.Field.{Field}
+use Rattle.fields.specs.Field.{line-feed, well-formed, value, widest, field-of}
 use Rattle.report.specs.declared.Settings.{Settings}
 use Rattle.report.specs.Report.{settings-laid-out, activities-set, threshold-set}
-use Rattle.report.specs.Stages.{both-set, settings-of}
+use Rattle.report.specs.Stages.{settings-of}
 
 pub cut-short : (input : List ℕ) → length input < 8 → settings-of input ≡ Settings.Malformed
 unfolding settings-laid-out
@@ -26,6 +26,13 @@ pub no-line-feed : (input : List ℕ) → eqb (getD input 7 0) line-feed ≡ fal
 unfolding settings-laid-out
 no-line-feed input h = rw (h, and-false)
 
+-- ## Two fields and a line feed
+
+abbrev pub both-set : Field → Field → Settings
+both-set (Field.Number n) (Field.Number threshold) = Settings.Set n threshold
+both-set (Field.Number n) Field.Malformed = Settings.Malformed
+both-set Field.Malformed threshold = Settings.Malformed
+
 both-by :
     (p q : Bool) (n threshold : ℕ) →
     both-set (if p then Field.Number n else Field.Malformed) (if q then Field.Number threshold else Field.Malformed)
@@ -34,12 +41,11 @@ both-by true true n threshold = refl
 both-by true false n threshold = refl
 both-by false q n threshold = refl
 
--- two fields and a line feed
-pub settings-set :
+pub fields-set :
     (input : List ℕ) → 8 ≤ length input → eqb (getD input 7 0) line-feed ≡ true →
     both-set (field-of (take 3 input)) (field-of (take 4 (drop 3 input))) ≡ settings-of input
 unfolding settings-laid-out activities-set threshold-set
-settings-set input long feed =
+fields-set input long feed =
     let three : leb (length (slice 0 3 input)) widest ≡ true = le-leb (length (slice 0 3 input)) widest (omega (arith, length-slice 0 3 input (omega arith))) in
     let four : leb (length (slice 3 7 input)) widest ≡ true = le-leb (length (slice 3 7 input)) widest (omega (arith, length-slice 3 7 input (omega arith))) in
     rw (take-drop 3 4 input, le-leb 8 (length input) long, feed, three, four)
@@ -61,21 +67,10 @@ long-enough input h =
     (and-left _ (well-formed (slice 3 7 input)) (and-left _ (eqb (getD input 7 0) line-feed) h)))
 
 pub set-by : (input : List ℕ) (n threshold : ℕ) → settings-of input ≡ Settings.Set n threshold → LaidOut input n threshold
-set-by input n threshold = go (settings-laid-out input) refl
-  where
-    go :
-        (laid-out : Bool) → settings-laid-out input ≡ laid-out →
-        (if laid-out then Settings.Set (activities-set input) (threshold-set input) else Settings.Malformed) ≡ Settings.Set n threshold →
-        LaidOut input n threshold
-    go true e h = record { laid-out = e; long = long-enough input e; activities = cc; threshold-is = cc }
-    go false e h = let z : _≡_ {A = ℕ} 0 1 = cc in absurd (omega arith)
+set-by input n threshold e =
+    either (settings-laid-out input)
+    (λ h. let set = rw h at e in record { laid-out = h; long = long-enough input h; activities = cc; threshold-is = cc })
+    (λ h. let z : _≡_ {A = ℕ} 0 1 = cc (rw h at e) in absurd (omega arith))
 
 pub malformed-by : (input : List ℕ) → settings-of input ≡ Settings.Malformed → settings-laid-out input ≡ false
-malformed-by input = go (settings-laid-out input)
-  where
-    go :
-        (laid-out : Bool) →
-        (if laid-out then Settings.Set (activities-set input) (threshold-set input) else Settings.Malformed) ≡ Settings.Malformed →
-        laid-out ≡ false
-    go true h = cc
-    go false h = refl
+malformed-by input e = either (settings-laid-out input) (λ h. cc (rw h at e)) (λ h. h)

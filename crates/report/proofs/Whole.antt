@@ -1,7 +1,6 @@
 -- Each printed number fits its columns: the theorem of specs/Whole.
 -- Assumes nothing.
-use Prim.Native.Nat.{ℕ, zero, suc, _+_, _*_, _^_, _≤_, _<_}
-use native.Mathlib.Nat.{mul-le-mul}
+use Prim.Native.Nat.{ℕ, zero, suc, _+_, _^_, _≤_, _<_}
 use native.Mathlib.Omega.{arith}
 use mathlib.Core.Path.{_≡_, ap}
 use mathlib.Core.Bool.{true}
@@ -9,7 +8,7 @@ use mathlib.Core.List.{List, [], _∷_}
 use borrow.Author.Tests.{ltb-false, not-false}
 use lib.ListN.{length, replicate, length-replicate, length-drop, drop}
 use Rattle.base.specs.Checks.{refused, reply}
-use Rattle.base.proofs.Checks.{none-fail, none-fail-reply, none-fail-both, Passed, Each, each-append, refused-each}
+use Rattle.base.proofs.Checks.{None-fail, none-fail, none-fail-both, Each, each-append, refused-each}
 use Rattle.base.proofs.Lists.{count-at-most}
 use Rattle.declare.specs.Meaning.{fulfilled}
 use Rattle.eventlog.specs.declared.Room.{Room}
@@ -17,14 +16,14 @@ use Rattle.eventlog.specs.Store.{most-activities, declarable}
 use Rattle.eventlog.proofs.Laws.{declared-range, kept-length, sound-facts}
 use Rattle.columns.specs.Log.{Line, Before, nothing-read, with-line, lines-within, lines, log-checks-from, log-checks, spelled}
 use Rattle.columns.specs.Calls.{with-traces}
-use Rattle.discovery.specs.declared.Constraint.{Constraint}
-use Rattle.discovery.specs.Constraints.{Question, fulfilments, listed, replayed}
+use Rattle.declare.specs.declared.constraints.Constraint.{Constraint}
+use Rattle.discovery.specs.Question.{Question, fulfilments, listed, replayed}
 use Rattle.discovery.specs.Calls.{find-checks}
-use Rattle.discovery.proofs.Listing.{listed-exactly, replayed-at-most, listed-within-replayed}
+use Rattle.discovery.proofs.Listing.{listed-exactly, replayed-at-most, listed-within-replayed, few-numbers}
 use Rattle.report.specs.Report.{most-input, lent-events, lent-ends, lent-list, log-of, activities-set, threshold-set}
-use Rattle.report.specs.Report.{log-question, question-set, room-lent, empty-store, checks-to-read, checks-of-report}
+use Rattle.report.specs.Report.{log-question, question-set, room-lent, checks-to-read, checks-of-report, Lent, empty-store}
 use Rattle.report.specs.Whole.{WholeLines, Whole}
-use Rattle.report.proofs.ReadPrinted.{filled}
+use Rattle.report.proofs.Reading.{Buffers, filled}
 
 -- ## Refusals
 
@@ -71,9 +70,7 @@ whole-log r log h = whole-lines r nothing-read 1 (lines log) (omega (arith, line
 
 module _ (q : Question) (few : q .activities ≤ most-activities) where
   replayed-few : replayed q ≤ 14336
-  replayed-few =
-      let fourteen : 14 * q .activities ≤ 448 = omega arith in
-      omega (arith, replayed-at-most q, mul-le-mul fourteen few)
+  replayed-few = few-numbers (q .activities) (replayed q) few (replayed-at-most q)
 
   listed-few : length (listed q) ≤ 14336
   listed-few = omega (arith, replayed-few, listed-within-replayed q)
@@ -106,26 +103,19 @@ whole-refusal input number detail =
 
 -- ## The report
 
--- some memory that is lent in full
-unfoldable some-events : List ℕ
-some-events = replicate lent-events 0
+-- some arrays that are lent
+unfoldable some-arrays : Lent
+some-arrays = record { events = replicate lent-events 0; ends = replicate lent-ends 0; list = [] }
 
-unfoldable some-ends : List ℕ
-some-ends = replicate lent-ends 0
+buffers : Buffers some-arrays
+unfolding some-arrays
+buffers = record { events = length-replicate {A = ℕ} lent-events 0; ends = length-replicate {A = ℕ} lent-ends 0 }
 
-length-events : length some-events ≡ lent-events
-unfolding some-events
-length-events = length-replicate {A = ℕ} lent-events 0
-
-length-ends : length some-ends ≡ lent-ends
-unfolding some-ends
-length-ends = length-replicate {A = ℕ} lent-ends 0
-
-module _ (n threshold : ℕ) (log : List ℕ) (declared : declarable n ≡ true) (passed : Passed (log-checks (room-lent n) log)) where
+module _ (n threshold : ℕ) (log : List ℕ) (declared : declarable n ≡ true) (none : None-fail (log-checks (room-lent n) log)) where
   traces-few : length (spelled log) ≤ 4095
   traces-few =
-      let m = with-traces (empty-store n some-events some-ends) (spelled log) in
-      let f = filled n threshold log some-events some-ends declared length-events length-ends passed in
+      let m = with-traces (empty-store n some-arrays) (spelled log) in
+      let f = filled n threshold log declared some-arrays buffers none in
       omega (
         arith,
         kept-length m (f .is-sound),
@@ -162,6 +152,6 @@ whole input =
           let n = activities-set input in
           let read = log-checks (room-lent n) (log-of input) in
           let none = none-fail (checks-of-report input) [] [] passed in
-          let none-of-read = none-fail-both read (find-checks (question-set input) lent-list) (none .1 .1 .1 .1) .0 in
-          whole-report n (threshold-set input) (log-of input) (not-false (declarable n) (none .1 .1 .0)) (none-fail-reply read [] none-of-read);
+          whole-report n (threshold-set input) (log-of input) (not-false (declarable n) (none .1 .1 .0))
+          (none-fail-both read (find-checks (question-set input) lent-list) (none .1 .1 .1 .1) .0);
     }

@@ -4,9 +4,10 @@ use Prim.Native.Nat.{ℕ}
 use mathlib.Core.Path.{_≡_, refl}
 use mathlib.Core.List.{List, [], _∷_}
 use Rattle.declare.specs.Meaning.{meanings, holds, activated, fulfilled}
-use Rattle.columns.specs.Field.{spell}
+use Rattle.fields.specs.Field.{spell}
 use Rattle.columns.specs.Log.{lines, log-checks, spelled}
-use Rattle.discovery.specs.Constraints.{constraints, fulfilments, support, listed, replayed}
+use Rattle.declare.specs.Constraints.{constraints}
+use Rattle.discovery.specs.Question.{fulfilments, support, listed, replayed}
 use Rattle.report.specs.Print.{refusal-line, first-line, constraint-line, found-text}
 use Rattle.report.specs.Report.{settings-laid-out, activities-set, threshold-set, lent-list, checks-to-read, checks-of-report, output-of}
 

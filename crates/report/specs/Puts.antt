@@ -5,6 +5,8 @@ use mathlib.Core.Path.{_≡_}
 use mathlib.Core.List.{List, [], _++_}
 use lib.ListN.{length, getD, drop}
 use lib.Seq.{sets}
+use Rattle.discovery.specs.Question.{numbers}
+use Rattle.report.specs.declared.Counted.{Counted}
 use Rattle.report.specs.Print.{constraint-line}
 
 -- `text`, of this size, is put at a place of `out`, and the place after it handed back
@@ -14,12 +16,20 @@ pub record Puts (out : List ℕ) (at size : ℕ) (text : List ℕ) (next : ℕ) 
   pub follows : next ≡ at + size
   pub stores : out′ ≡ sets out at text
 
--- the line of the constraint that stands in a list after so many others, each of them four numbers
+-- the line of the constraint that stands in a list after so many others
 abbrev pub line-at : ℕ → List ℕ → List ℕ
 line-at k list =
-    constraint-line (getD list (4 * k) 0) (getD list (4 * k + 1) 0) (getD list (4 * k + 2) 0) (getD list (4 * k + 3) 0)
+    constraint-line
+    (getD list (numbers * k) 0) (getD list (numbers * k + 1) 0) (getD list (numbers * k + 2) 0) (getD list (numbers * k + 3) 0)
+
+-- that constraint
+pub record CountedAt (k : ℕ) (list : List ℕ) (c : Counted) : Type 0 where
+  pub template : c .template ≡ getD list (numbers * k) 0
+  pub a : c .a ≡ getD list (numbers * k + 1) 0
+  pub b : c .b ≡ getD list (numbers * k + 2) 0
+  pub count : c .count ≡ getD list (numbers * k + 3) 0
 
 -- the lines of a list's first constraints
 abbrev pub lines-of : ℕ → List ℕ → List ℕ
 lines-of zero list = []
-lines-of (suc more) list = line-at 0 list ++ lines-of more (drop 4 list)
+lines-of (suc more) list = line-at 0 list ++ lines-of more (drop numbers list)

@@ -7,14 +7,15 @@ use mathlib.Core.List.{List, [], _∷_, _++_}
 use lib.Dec.{eqb, leb, ltb}
 use lib.ListN.{length, getD, drop, replicate}
 use lib.Seq.{slice}
+use denote.Ref.{RefT, now}
 use Rattle.base.specs.Checks.{Check, _refuses_with_, Reply, gives, refused, reply, when-passed}
 use Rattle.eventlog.specs.declared.Room.{Room}
 use Rattle.eventlog.specs.Store.{Memory}
 use Rattle.eventlog.specs.Calls.{open-checks}
-use Rattle.columns.specs.Field.{line-feed, well-formed, value}
+use Rattle.fields.specs.Field.{line-feed, well-formed, value}
 use Rattle.columns.specs.Log.{log-checks, spelled}
 use Rattle.columns.specs.Calls.{with-traces}
-use Rattle.discovery.specs.Constraints.{Question}
+use Rattle.discovery.specs.Question.{Question, numbers}
 use Rattle.discovery.specs.Calls.{threshold-check, find-checks, with-list}
 use Rattle.report.specs.Print.{refusal-line, found-text}
 
@@ -33,7 +34,7 @@ lent-constraints = 8000
 
 -- a slice as long as the one lent for the list, four numbers a constraint; find's checks look at its length alone
 unfoldable pub lent-list : List ℕ
-lent-list = replicate (4 * lent-constraints) 0
+lent-list = replicate (numbers * lent-constraints) 0
 
 -- ## The input: a settings line, then a log
 
@@ -60,6 +61,10 @@ question-set input = log-question (activities-set input) (threshold-set input) (
 
 -- ## The order: 12, settings malformed or cut short (4, detail 0), 2, 3, then read, then find
 
+-- these checks, and then the find's
+abbrev pub then-find : List Check → Question → List Check
+then-find checks q = checks ++ find-checks q lent-list
+
 -- the log is read into an empty store, with the room of all that is lent
 abbrev pub room-lent : ℕ → Room
 room-lent n = record { activities = n; traces = 0; last = 0; events = lent-events; ends = lent-ends }
@@ -75,7 +80,7 @@ checks-to-read input =
 -- all of them
 unfoldable pub checks-of-report : List ℕ → List Check
 unfolding checks-to-read
-checks-of-report input = checks-to-read input ++ find-checks (question-set input) lent-list
+checks-of-report input = then-find (checks-to-read input) (question-set input)
 
 -- ## The output
 
@@ -91,30 +96,37 @@ output-of input = printed (reply (checks-of-report input) []) (found-text (quest
 
 -- ## The contract
 
+-- what is lent beside the output: the two buffers of a store, and the slice for the list
+pub record Lent : Type 0 where
+  pub events : List ℕ
+  pub ends : List ℕ
+  pub list : List ℕ
+
+-- what stands behind three references: contracts speak of it so
+abbrev pub lent-arrays : RefT (List ℕ) → RefT (List ℕ) → RefT (List ℕ) → Lent
+lent-arrays events ends list = record { events = now events; ends = now ends; list = now list }
+
 -- the lent buffers as an empty store
-abbrev pub empty-store : ℕ → List ℕ → List ℕ → Memory
-empty-store n events ends = record { store = record { activities = n; traces = 0 }; events = events; ends = ends }
+abbrev pub empty-store : ℕ → Lent → Memory
+empty-store n arrays = record { store = record { activities = n; traces = 0 }; events = arrays .events; ends = arrays .ends }
 
 -- the memory with the question's traces, where these checks pass
-abbrev pub filled-by : List Check → Question → List ℕ → List ℕ → Memory
-filled-by checks q events ends =
-    let empty = empty-store (q .activities) events ends in
+abbrev pub filled-by : List Check → Question → Lent → Memory
+filled-by checks q arrays =
+    let empty = empty-store (q .activities) arrays in
     when-passed checks (with-traces empty (q .traces)) empty
 
--- the memory that the read leaves
-unfoldable pub memory-read : List ℕ → List ℕ → List ℕ → Memory
-unfolding checks-to-read
-memory-read input events ends = filled-by (checks-to-read input) (question-set input) events ends
+-- what is left: the buffers with the question's traces where these checks pass, and the list where the find's pass too
+abbrev pub left-by : List Check → Question → Lent → Lent
+left-by checks q arrays =
+    record {
+      events = filled-by checks q arrays .events;
+      ends = filled-by checks q arrays .ends;
+      list = when-passed (then-find checks q) (with-list q (arrays .list)) (arrays .list);
+    }
 
--- the slice that is lent for the list, after the find
-unfoldable pub list-found : List ℕ → List ℕ → List ℕ
-unfolding checks-of-report
-list-found input list = when-passed (checks-of-report input) (with-list (question-set input) list) list
-
--- `report` writes so many bytes, and leaves the lent arrays so
-pub record Reports (input events ends list out : List ℕ) (written : ℕ) (events′ ends′ list′ out′ : List ℕ) : Type 0 where
+-- `report` writes so many bytes into `out`, and leaves the lent arrays so
+pub record Reports (input : List ℕ) (arrays : Lent) (out : List ℕ) (written : ℕ) (arrays′ : Lent) (out′ : List ℕ) : Type 0 where
   pub counts : written ≡ length (output-of input)
   pub prints : out′ ≡ output-of input ++ drop (length (output-of input)) out
-  pub leaves-events : events′ ≡ memory-read input events ends .events
-  pub leaves-ends : ends′ ≡ memory-read input events ends .ends
-  pub leaves-list : list′ ≡ list-found input list
+  pub leaves : arrays′ ≡ left-by (checks-to-read input) (question-set input) arrays

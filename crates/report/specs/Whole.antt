@@ -5,8 +5,8 @@ use mathlib.Core.Path.{_≡_}
 use mathlib.Core.List.{List, [], List·Mem}
 use lib.ListN.{length}
 use Rattle.base.specs.Checks.{gives, refused, reply}
-use Rattle.discovery.specs.declared.Constraint.{Constraint}
-use Rattle.discovery.specs.Constraints.{Question, trace-count, fulfilments, listed, replayed}
+use Rattle.declare.specs.declared.constraints.Constraint.{Constraint}
+use Rattle.discovery.specs.Question.{Question, trace-count, fulfilments, listed, replayed}
 use Rattle.report.specs.Report.{question-set, checks-of-report}
 
 -- the numbers of the lines of a find

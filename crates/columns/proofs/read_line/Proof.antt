@@ -4,7 +4,7 @@ use mathlib.Core.Path.{_≡_, sym, _∙_}
 use mathlib.Core.Logic.{⊎-elim}
 use lib.ListN.{getD, take, drop}
 use borrow.Author.Tests.{eqb-true, eqb-false, not-true, not-false}
-use Rattle.columns.specs.Field.{field-of}
+use Rattle.fields.specs.Field.{field-of}
 use Rattle.columns.proofs.Lines.{not-ten, no-line-feed, no-number, zero-number, no-activity, an-event}
 use borrow.Author.Needs.{needs}
 use Rattle.columns.proofs.read_line.Statement.{statement}

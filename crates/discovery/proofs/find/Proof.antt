@@ -76,8 +76,8 @@ returns-4 c =
 enum-told : tie.Need-enum-told
 enum-told c = search needs
 
-pass-all-requires : tie.Need-pass-all-requires
-pass-all-requires c κs = is-sound-here (c .before .before .before .before .before .before .before .before .before .before)
+pass-requires : tie.Need-pass-requires
+pass-requires c κs = is-sound-here (c .before .before .before .before .before .before .before .before .before .before)
 
 same-length-2 : tie.Need-same-length-2
 same-length-2 c = search needs
@@ -89,7 +89,7 @@ returns-5 c =
     let s = e .before .before .before .before .before .before .before .before in
     let fits = fits-told _ (s .args .list .now) (sym (l .look .ensures .0) ∙ c .before .before .before .before .enum-told .given .1) in
     finds-listed (memory-at s) _ _ (is-sound-here (e .before .before .before)) (in-range-here (e .before)) (e .if3 .left) _ refl fits _ _
-    (rw (l .look .ensures .1) at (c .before .before .pass-all .ensures))
+    (rw (l .look .ensures .1) at (c .before .before .pass .ensures))
 
 pub find-spec : {M : Type 1} → statement M
 find-spec =
@@ -109,6 +109,6 @@ find-spec =
     same-length
     returns-4
     enum-told
-    pass-all-requires
+    pass-requires
     same-length-2
     returns-5)

@@ -6,6 +6,7 @@ use mathlib.Core.Path.{_≡_, refl}
 use native.Mathlib.Numerals.{add-one}
 use denote.Ref.{now}
 use lib.ListN.{length}
+use Rattle.report.specs.Print.{constraint-line-size}
 use Rattle.report.specs.Puts.{Puts, lines-of}
 use Rattle.report.proofs.Puts.{put-then, lines-more}
 use Rattle.report.proofs.put_list.Statement.{statement}
@@ -13,7 +14,7 @@ use Rattle.report.proofs.put_list.Tie as tie
 
 abbrev Inv-loop : tie.InvT-loop
 Inv-loop out₀ at list count next₀ k₀ out next k =
-    (k ≤ count) × (length out ≡ length out₀) × Puts out₀ at (14 * k) (lines-of k list) next out
+    (k ≤ count) × (length out ≡ length out₀) × Puts out₀ at (constraint-line-size * k) (lines-of k list) next out
 
 abbrev μ-loop : tie.MeasureT-loop
 μ-loop out₀ at list count next₀ k₀ out next k = count - k
@@ -21,8 +22,11 @@ abbrev μ-loop : tie.MeasureT-loop
 loop-holds : tie.Need-loop-holds Inv-loop μ-loop
 loop-holds c = (omega arith, refl, record { sized = refl; within = omega arith; follows = omega arith; stores = refl })
 
-put-nth-requires : tie.Need-put-nth-requires Inv-loop μ-loop
-put-nth-requires c κs = omega arith
+counted-at-requires : tie.Need-counted-at-requires Inv-loop μ-loop
+counted-at-requires c κs = omega arith
+
+put-constraint-requires : tie.Need-put-constraint-requires Inv-loop μ-loop
+put-constraint-requires c κs = omega arith
 
 add-k : tie.Need-add-k Inv-loop μ-loop
 add-k c = omega arith
@@ -32,12 +36,14 @@ loop-less c = omega arith
 
 loop-again : tie.Need-loop-again Inv-loop μ-loop
 loop-again c =
-    let a = c .before .before .before .before .before .loop in
-    let list = now (c .before .before .before .before .before .before .before .before .args .list) in
-    let size : 14 * (a .k + 1) ≡ 14 * a .k + 14 = omega arith in (
+    let a = c .before .before .before .before .before .before .loop in
+    let list = now (c .before .before .before .before .before .before .before .before .before .args .list) in
+    let counted = c .before .before .before .counted-at .ensures in
+    let line = rw (counted .template, counted .a, counted .b, counted .count) at (c .before .before .put-constraint .ensures) in
+    let size : constraint-line-size * (a .k + 1) ≡ constraint-line-size * a .k + constraint-line-size = omega arith in (
       omega arith,
-      omega (arith, a .inv .1, c .before .before .put-nth .kept .0),
-      rw (size, add-one, lines-more (a .k) list) (put-then (a .inv .2) (c .before .before .put-nth .ensures)),
+      omega (arith, a .inv .1, c .before .before .put-constraint .kept .0),
+      rw (size, add-one (a .k), lines-more (a .k) list) (put-then (a .inv .2) line),
     )
 
 same-length : tie.Need-same-length Inv-loop μ-loop
@@ -56,7 +62,8 @@ put-list-spec =
     Inv-loop
     μ-loop
     loop-holds
-    put-nth-requires
+    counted-at-requires
+    put-constraint-requires
     add-k
     loop-less
     loop-again

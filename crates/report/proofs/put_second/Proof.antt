@@ -1,63 +1,68 @@
--- `report::put_second` meets its contract.
+-- `report::put_second` meets its contract: the template tells whether the field is blank.
 -- Assumes nothing.
 use native.Mathlib.Omega.{arith}
-use native.Mathlib.Numerals.{towards-suc}
 use mathlib.Core.Path.{refl}
 use borrow.Author.Needs.{needs}
 use borrow.Author.Tests.{le-leb, lt-leb}
-use lib.ListN.{length-set}
+use denote.Ref.{now}
+use lib.ListN.{replicate, length-replicate}
+use Rattle.fields.specs.Field.{blank}
+use Rattle.fields.proofs.Columns.{part-filled}
+use Rattle.report.specs.Print.{activity-width}
 use Rattle.report.proofs.put_second.Statement.{statement}
 use Rattle.report.proofs.put_second.Tie as tie
 
-slice-write-out : tie.Need-slice-write-out
-slice-write-out c = search needs
+add-end : tie.Need-add-end
+add-end c = search needs
 
-add-out : tie.Need-add-out
-add-out c = search needs
+sub-put-blanks : tie.Need-sub-put-blanks
+sub-put-blanks c = search needs
 
-slice-write-out-2 : tie.Need-slice-write-out-2
-slice-write-out-2 c = simp length-set (omega arith)
+part-put-blanks-start : tie.Need-part-put-blanks-start
+part-put-blanks-start c = search needs
 
-add-out-2 : tie.Need-add-out-2
-add-out-2 c = search needs
+part-put-blanks-end : tie.Need-part-put-blanks-end
+part-put-blanks-end c = search needs
 
-slice-write-out-3 : tie.Need-slice-write-out-3
-slice-write-out-3 c = simp length-set (omega arith)
-
-add-result : tie.Need-add-result
-add-result c = search needs
+put-blanks-requires : tie.Need-put-blanks-requires
+put-blanks-requires c κs = search needs
 
 same-length : tie.Need-same-length
-same-length c = simp length-set
+same-length c = search needs
 
 returns : tie.Need-returns
 returns c =
-    let template = c .before .before .args .template in
-    simp (le-leb template 8 (omega arith)) (record { sized = refl; within = omega arith; follows = refl; stores = simp towards-suc })
+    let args = c .before .before .before .before .before .before .before .args in
+    rw (le-leb (args .c .template) 8 (omega arith))
+    (record {
+      sized = length-replicate activity-width blank;
+      within = omega arith;
+      follows = refl;
+      stores =
+          part-filled (λ w. replicate w blank) (λ w. length-replicate w blank) (now (args .out)) (args .at) activity-width (omega arith)
+          (c .before .before .put-blanks .ensures);
+    })
 
-put-field-requires : tie.Need-put-field-requires
-put-field-requires c κs = search needs
+put-number-requires : tie.Need-put-number-requires
+put-number-requires c κs = search needs
 
 same-length-2 : tie.Need-same-length-2
 same-length-2 c = search needs
 
 returns-2 : tie.Need-returns-2
-returns-2 c =
-    let template = c .before .before .before .before .before .before .args .template in
-    simp (lt-leb template 8 (omega arith)) (c .before .before .put-field .ensures)
+returns-2 c = rw (lt-leb _ 8 (c .before .before .before .before .if1 .left)) (c .before .before .put-number .ensures)
 
 pub put-second-spec : {M : Type 1} → statement M
 put-second-spec =
     tie.close
     (tie.spec
-    slice-write-out
-    add-out
-    slice-write-out-2
-    add-out-2
-    slice-write-out-3
-    add-result
+    add-end
+    sub-put-blanks
+    part-put-blanks-start
+    part-put-blanks-end
+    put-blanks-requires
     same-length
     returns
-    put-field-requires
+    put-number-requires
     same-length-2
     returns-2)

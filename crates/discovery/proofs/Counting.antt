@@ -1,0 +1,109 @@
+-- A walk over the store's ends, trace by trace: how many of the kept traces pass a test. Support and replay are walks.
+-- Assumes nothing.
+use Prim.Native.Nat.{ℕ, suc, _+_, _-_, _≤_, _<_}
+use mathlib.Core.Path.{_≡_, refl, ap, _∙_}
+use mathlib.Core.Bool.{Bool, true, false, _&&_}
+use mathlib.Core.List.{List, [], _∷_}
+use native.Mathlib.Numerals.{add-one}
+use native.Mathlib.Omega.{arith}
+use lib.ListN.{length, take, drop, getD, drop-of-length-le}
+use lib.Seq.{drop-cons, getD-take, length-take-le}
+use Rattle.base.specs.Logic.{if_then_else_}
+use Rattle.declare.specs.declared.Verdict.{Verdict}
+use Rattle.declare.specs.declared.Verdict.the-variants.{Fulfilled, NotActivated, Violated}
+use Rattle.declare.specs.Meaning.{activated, holds, fulfilled, verdict}
+use Rattle.eventlog.specs.Store.{Memory, cut, last-from, last-end, rising, sound}
+use Rattle.eventlog.proofs.Laws.{sound-facts, Rises, rising-facts, rises-on}
+use Rattle.base.specs.Lists.{count}
+use Rattle.base.proofs.Lists.{part-slice}
+
+-- a trace is fulfilled where the verdict says so
+abbrev pub is-fulfilled : Verdict → Bool
+is-fulfilled Fulfilled = true
+is-fulfilled NotActivated = false
+is-fulfilled Violated = false
+
+pub verdict-fulfilled : (t a b : ℕ) (trace : List ℕ) → fulfilled t a b trace ≡ is-fulfilled (verdict t a b trace)
+unfolding fulfilled verdict
+verdict-fulfilled t a b trace = go (activated t a b trace) (holds t a b trace)
+  where
+    go : (p q : Bool) → (p && q) ≡ is-fulfilled (if p then (if q then Fulfilled else Violated) else NotActivated)
+    go true true = refl
+    go true false = refl
+    go false q = refl
+
+-- at the k-th of so many traces, which starts at `from`, with so many before it that pass
+pub record Counting (p : List ℕ → Bool) (events ends : List ℕ) (traces so-far from k : ℕ) : Type 0 where
+  pub has-ends : traces ≤ length ends
+  pub few-traces : traces ≤ 4095
+  pub few : so-far ≤ k
+  pub in-store : k ≤ traces
+  pub counted : so-far + count p (cut from (drop k (take traces ends)) events) ≡ count p (cut 0 (take traces ends) events)
+  pub rises : rising from (drop k (take traces ends)) ≡ true
+  pub within : last-from from (drop k (take traces ends)) ≤ length events
+
+pub counting-start : (p : List ℕ → Bool) (m : Memory) → sound m ≡ true → Counting p (m .events) (m .ends) (m .store .traces) 0 0 0
+unfolding last-end
+counting-start p m h =
+    let s = sound-facts m h in
+    record { has-ends = s .has-ends; few-traces = s .few-traces; few = omega arith; in-store = omega arith; counted = omega arith; rises = s .rises; within = s .fits }
+
+count-first :
+    (p : List ℕ → Bool) (t : Bool) (trace : List ℕ) (traces : List (List ℕ)) → p trace ≡ t →
+    count p (trace ∷ traces) ≡ (if t then suc (count p traces) else count p traces)
+count-first p true trace traces h = rw h
+count-first p false trace traces h = rw h
+
+count-on : (t : Bool) (so-far rest all : ℕ) → so-far + (if t then suc rest else rest) ≡ all → (if t then so-far + 1 else so-far) + rest ≡ all
+count-on true so-far rest all h = omega arith
+count-on false so-far rest all h = h
+
+few-on : (t : Bool) (so-far k : ℕ) → so-far ≤ k → (if t then so-far + 1 else so-far) ≤ k + 1
+few-on true so-far k h = omega arith
+few-on false so-far k h = omega arith
+
+module _ (p : List ℕ → Bool) (events ends : List ℕ) (traces so-far from k : ℕ) (w : Counting p events ends traces so-far from k) where
+  pub counting-done : traces ≤ k → so-far ≡ count p (cut 0 (take traces ends) events)
+  counting-done past =
+      let none : drop k (take traces ends) ≡ [] =
+      drop-of-length-le (take traces ends) {i = k} (omega (arith, length-take-le traces ends (w .has-ends))) in
+      let c = rw none at (w .counted) in
+      omega arith
+
+  module _ (more : k < traces) where
+    abbrev pub next : ℕ
+    next = getD ends k 0
+
+    rest : drop k (take traces ends) ≡ next ∷ drop (suc k) (take traces ends)
+    rest =
+        drop-cons (take traces ends) k 0 (omega (arith, length-take-le traces ends (w .has-ends)))
+        ∙ ap (λ (e : ℕ). e ∷ drop (suc k) (take traces ends)) (getD-take traces ends k 0 more)
+
+    rises-next : Rises from next (drop (suc k) (take traces ends))
+    rises-next = rising-facts from next _ (rw rest at (w .rises))
+
+    within-next : last-from next (drop (suc k) (take traces ends)) ≤ length events
+    within-next = rw rest at (w .within)
+
+    pub starts-before : from ≤ next
+    starts-before = rises-next .above
+
+    pub ends-within : next ≤ length events
+    ends-within = omega (arith, within-next, rises-on next (drop (suc k) (take traces ends)) (rises-next .rest))
+
+    abbrev pub part : List ℕ
+    part = take (next - from) (drop from events)
+
+    -- one trace on, counted where it passes
+    pub counting-next : (t : Bool) → p part ≡ t → Counting p events ends traces (if t then so-far + 1 else so-far) next (k + 1)
+    counting-next t e =
+        let first = count-first p t _ (cut next (drop (suc k) (take traces ends)) events) (rw (part-slice from next events starts-before) at e) in
+        record {
+          has-ends = w .has-ends;
+          few-traces = w .few-traces;
+          few = few-on t so-far k (w .few);
+          in-store = omega arith;
+          counted = rw (add-one k) (count-on t so-far _ _ (rw (← first) (rw rest at (w .counted))));
+          rises = rw (add-one k) (rises-next .rest);
+          within = rw (add-one k) within-next;
+        }

@@ -1,0 +1,2 @@
+pub mod Occurrence
+pub mod Pruning

@@ -1,0 +1,92 @@
+-- `discovery::classes::support` meets its contract: the loop is a walk over the ends that counts the traces of the class.
+-- Assumes nothing.
+use Prim.Native.Nat.{_-_}
+use mathlib.Core.Path.{sym}
+use mathlib.Core.Logic.{⊎-elim}
+use native.Mathlib.Omega.{arith}
+use borrow.Author.Needs.{needs}
+use Rattle.eventlog.specs.Store.{kept}
+use Rattle.discovery.specs.Question.{class-of, counts-for, support}
+use Rattle.discovery.proofs.Counting.{Counting, counting-start, counting-next, counting-done, starts-before, ends-within}
+use Rattle.discovery.proofs.classes.support.Statement.{statement}
+use Rattle.discovery.proofs.classes.support.Tie as tie
+
+abbrev Inv-loop : tie.InvT-loop
+Inv-loop events ends c class traces count₀ start₀ k₀ count start k =
+    Counting (counts-for class (c .a) (c .b)) events ends traces count start k
+
+abbrev μ-loop : tie.MeasureT-loop
+μ-loop events ends c class traces count₀ start₀ k₀ count start k = traces - k
+
+class-of-requires : tie.Need-class-of-requires Inv-loop μ-loop
+class-of-requires c κs = search needs
+
+cast-kept : tie.Need-cast-kept Inv-loop μ-loop
+cast-kept c = omega (arith, c .struct-known .given)
+
+loop-holds : tie.Need-loop-holds Inv-loop μ-loop
+loop-holds c = counting-start _ _ (c .before .before .before .before .pre)
+
+mul-end : tie.Need-mul-end Inv-loop μ-loop
+mul-end c = omega arith
+
+shared-slice-read-end : tie.Need-shared-slice-read-end Inv-loop μ-loop
+shared-slice-read-end c = omega arith
+
+cast-end : tie.Need-cast-end Inv-loop μ-loop
+cast-end c = omega (arith, c .shared-slice-known3 .given (c .before .before .loop .k))
+
+sub-counts-for : tie.Need-sub-counts-for Inv-loop μ-loop
+sub-counts-for c = starts-before _ _ _ _ _ _ _ (c .before .before .loop .inv) (c .before .loop-test .taken)
+
+part-counts-for-start : tie.Need-part-counts-for-start Inv-loop μ-loop
+part-counts-for-start c = starts-before _ _ _ _ _ _ _ (c .before .before .loop .inv) (c .before .loop-test .taken)
+
+part-counts-for-end : tie.Need-part-counts-for-end Inv-loop μ-loop
+part-counts-for-end c = ends-within _ _ _ _ _ _ _ (c .before .before .loop .inv) (c .before .loop-test .taken)
+
+counts-for-requires : tie.Need-counts-for-requires Inv-loop μ-loop
+counts-for-requires c κs = search needs
+
+add-count : tie.Need-add-count Inv-loop μ-loop
+add-count c = omega arith
+
+add-k : tie.Need-add-k Inv-loop μ-loop
+add-k c = omega arith
+
+loop-less : tie.Need-loop-less Inv-loop μ-loop
+loop-less c = omega arith
+
+loop-again : tie.Need-loop-again Inv-loop μ-loop
+loop-again c =
+    let next =
+    counting-next _ _ _ _ _ _ _ (c .before .before .before .before .before .loop .inv) (c .before .before .before .before .loop-test .taken)
+    _ (sym (c .before .counts-for .ensures)) in
+    ⊎-elim (λ w. rw (w .1) (rw (w .0 .taken) at next)) (λ w. rw (w .1) (rw (w .0 .left) at next)) (c .if1 .came)
+
+returns : tie.Need-returns Inv-loop μ-loop
+unfolding kept support
+returns c =
+    rw (← c .before .before .before .class-of .ensures) (counting-done _ _ _ _ _ _ _ (c .before .loop .inv) (c .loop-test .left))
+
+pub support-spec : {M : Type 1} → statement M
+support-spec =
+    tie.close
+    (tie.spec
+    Inv-loop
+    μ-loop
+    class-of-requires
+    cast-kept
+    loop-holds
+    mul-end
+    shared-slice-read-end
+    cast-end
+    sub-counts-for
+    part-counts-for-start
+    part-counts-for-end
+    counts-for-requires
+    add-count
+    add-k
+    loop-less
+    loop-again
+    returns)

@@ -1,0 +1,111 @@
+// Pruning: the classes of constraints, their support, and what is kept.
+ghost use mathlib.Core.Path.{_≡_};
+ghost use mathlib.Core.Bool.{true};
+ghost use Rattle.declare.specs.Meaning.{occurs as occurs-in};
+ghost use Rattle.eventlog.specs.Store.{lent, sound, kept};
+ghost use Rattle.discovery.specs.Question.{asked, class-of, counts-for, always as always-test, support as support-of, survives as survives-test, meets as meets-test};
+use declare::Constraint;
+use eventlog::Store;
+
+// The classes of pruning: by the traces with a, by all of them, by those with a or b, by those with both.
+pub enum Class {
+    WithA,
+    All,
+    Either,
+    Both,
+}
+
+// The template's number settles the class; a number that is no template's is in the last one.
+fn class_of(template: u8) -> Class
+    ensures { λ r. ⌜ r ≡ class-of template ⌝ }
+{
+    match template {
+        1..=3 | 7..=8 => Class::WithA,
+        4..=6 => Class::All,
+        9..=10 | 12 | 23..=24 => Class::Either,
+        _ => Class::Both,
+    }
+}
+
+// The scan stops at the first a.
+fn occurs(a: u8, trace: &[u8]) -> bool
+    ensures { λ r. ⌜ r ≡ occurs-in a (now (trace .entry)) ⌝ }
+{
+    let mut i = 0;
+    while i < trace.len() {
+        if trace[i] == a {
+            return true;
+        }
+        i += 1;
+    }
+    false
+}
+
+// Whether a trace counts for a class of pruning.
+fn counts_for(class: Class, a: u8, b: u8, trace: &[u8]) -> bool
+    ensures { λ r. ⌜ r ≡ counts-for class a b (now (trace .entry)) ⌝ }
+{
+    match class {
+        Class::WithA => occurs(a, trace),
+        Class::All => true,
+        Class::Either => occurs(a, trace) || occurs(b, trace),
+        Class::Both => occurs(a, trace) && occurs(b, trace),
+    }
+}
+
+// How many kept traces count for the constraint's class.
+fn support(store: Store, events: &[u8], ends: &[u32], c: Constraint) -> u32
+    requires { ⌜ sound (lent store events ends) ≡ true ⌝ }
+    ensures { λ r. ⌜ r ≡ support-of (kept (lent store (events .entry) (ends .entry))) c ⌝ }
+{
+    let class = class_of(c.template);
+    let kept = store.traces as usize;
+    let mut count: u32 = 0;
+    let mut start: usize = 0;
+    let mut k: usize = 0;
+    while k < kept {
+        let end = ends[k] as usize;
+        if counts_for(class, c.a, c.b, &events[start..end]) {
+            count += 1;
+        }
+        start = end;
+        k += 1;
+    }
+    count
+}
+
+// 1000 times the number is at least the threshold times all; nothing is rounded.
+pub(crate) fn meets(threshold: u32, all: u32, number: u32) -> bool
+    ensures { λ r. ⌜ r ≡ meets-test threshold all number ⌝ }
+{
+    (threshold as u64) * (all as u64) <= 1000 * (number as u64)
+}
+
+// Whether a class is kept by pruning whatever its support.
+fn always(class: Class) -> bool
+    ensures { λ r. ⌜ r ≡ always-test class ⌝ }
+{
+    match class {
+        Class::All => true,
+        Class::WithA => false,
+        Class::Either => false,
+        Class::Both => false,
+    }
+}
+
+// Whether pruning keeps a constraint. Nothing is counted for a class that it keeps always.
+pub(crate) fn survives(
+    store: Store,
+    events: &[u8],
+    ends: &[u32],
+    threshold: u32,
+    c: Constraint,
+) -> bool
+    requires { ⌜ sound (lent store events ends) ≡ true ⌝ }
+    ensures { λ r. ⌜ r ≡ survives-test (asked (lent store (events .entry) (ends .entry)) threshold) c ⌝ }
+{
+    if always(class_of(c.template)) {
+        return true;
+    }
+    meets(threshold, store.traces, support(store, events, ends, c))
+}

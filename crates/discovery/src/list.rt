@@ -1,0 +1,103 @@
+// The list: passing over the constraints, and writing those to be listed.
+ghost use Prim.Native.Nat.{_*_};
+ghost use mathlib.Core.Path.{_≡_};
+ghost use mathlib.Core.Bool.{true};
+ghost use mathlib.Core.List.{[], _∷_};
+ghost use lib.ListN.{set};
+ghost use lib.Seq.{sets};
+ghost use Rattle.declare.specs.Constraints.{constraints};
+ghost use Rattle.eventlog.specs.Store.{lent, sound};
+ghost use Rattle.discovery.specs.Question.{asked, numbers};
+ghost use Rattle.discovery.specs.Passes.{Passes, AtMostAll, none-yet};
+use crate::NUMBERS;
+use crate::classes;
+use crate::replay;
+use declare::Constraint;
+use eventlog::Store;
+
+// How many constraints so far are listed, and how many were replayed.
+pub struct Tally {
+    pub listed: u32,
+    pub replayed: u32,
+}
+
+// A number past the slice's end is dropped: the first pass of find is lent no numbers, and writes none.
+fn put(list: &mut [u16], at: usize, value: u16)
+    ensures { λ _. ⌜ now (list .exit) ≡ set (now (list .entry)) at value ⌝ }
+{
+    if at < list.len() {
+        list[at] = value;
+    }
+}
+
+// The four numbers of a listed constraint, behind those of the constraints listed before it.
+fn write(list: &mut [u16], listed: u32, c: Constraint, count: u16)
+    ensures { λ _. ⌜ now (list .exit) ≡ sets (now (list .entry)) (numbers * listed) (c .template ∷ c .a ∷ c .b ∷ count ∷ []) ⌝ }
+{
+    let at = NUMBERS * (listed as usize);
+    put(list, at, c.template as u16);
+    put(list, at + 1, c.a as u16);
+    put(list, at + 2, c.b as u16);
+    put(list, at + 3, count);
+}
+
+// Passes over one constraint: what pruning drops is not replayed, and what is replayed is written where its count meets the
+// threshold. So far no more than all constraints are listed and replayed, so that no number can wrap.
+fn consider(
+    store: Store,
+    events: &[u8],
+    ends: &[u32],
+    threshold: u32,
+    list: &mut [u16],
+    tally: Tally,
+    c: Constraint,
+) -> Tally
+    requires { ⌜ sound (lent store events ends) ≡ true ⌝ }
+    requires { ⌜ (AtMostAll (store .activities) (tally .listed)) × (AtMostAll (store .activities) (tally .replayed)) ⌝ }
+    ensures { λ r. ⌜ Passes (asked (lent store (events .entry) (ends .entry)) threshold) (c ∷ []) tally (now (list .entry)) r (now (list .exit)) ⌝ }
+{
+    if !classes::survives(store, events, ends, threshold, c) {
+        return tally;
+    }
+    let outcome = replay::replay(store, events, ends, threshold, c, tally.replayed);
+    let fulfilled = outcome.fulfilled;
+    let replayed = outcome.replayed;
+    if !classes::meets(threshold, store.traces, fulfilled) {
+        return Tally {
+            listed: tally.listed,
+            replayed,
+        };
+    }
+    write(list, tally.listed, c, fulfilled as u16);
+    Tally {
+        listed: tally.listed + 1,
+        replayed,
+    }
+}
+
+// Passes over all constraints in their order: counts those listed and replayed, and writes the list as far as the slice goes.
+pub(crate) fn pass(
+    store: Store,
+    events: &[u8],
+    ends: &[u32],
+    threshold: u32,
+    list: &mut [u16],
+) -> Tally
+    requires { ⌜ sound (lent store events ends) ≡ true ⌝ }
+    ensures { λ r. ⌜ Passes (asked (lent store (events .entry) (ends .entry)) threshold) (constraints (store .activities)) none-yet (now (list .entry)) r (now (list .exit)) ⌝ }
+{
+    let n = store.activities as u8;
+    let all = declare::constraint_count(n);
+    let mut found = Tally {
+        listed: 0,
+        replayed: 0,
+    };
+    let mut c = declare::first_constraint();
+    let mut place: u32 = 0;
+    while place < all {
+        found = consider(store, events, ends, threshold, list, found, c);
+        c = declare::next_constraint(n, c);
+        place += 1;
+    }
+    found
+}

@@ -1,0 +1,4 @@
+pub mod Columns
+pub mod Examples
+pub mod Field
+pub mod Scan

@@ -1,0 +1,33 @@
+-- `report::put_refusal` meets its contract: its fields are put one after the other.
+-- Assumes nothing.
+use borrow.Author.Needs.{needs}
+use Rattle.report.specs.Print.{refusal-line}
+use Rattle.report.proofs.Puts.{put-then}
+use Rattle.report.proofs.put_refusal.Statement.{statement}
+use Rattle.report.proofs.put_refusal.Tie as tie
+
+put-number-requires : tie.Need-put-number-requires
+put-number-requires c κs = search needs
+
+put-number-requires-2 : tie.Need-put-number-requires-2
+put-number-requires-2 c κs = search needs
+
+put-line-feed-requires : tie.Need-put-line-feed-requires
+put-line-feed-requires c κs = search needs
+
+same-length : tie.Need-same-length
+same-length c = search needs
+
+returns : tie.Need-returns
+unfolding refusal-line
+returns c =
+    put-then
+    (put-then
+    (c .before .before .before .before .before .before .before .before .before .before .put-number .ensures)
+    (c .before .before .before .before .before .before .put-number2 .ensures))
+    (c .before .before .put-line-feed .ensures)
+
+pub put-refusal-spec : {M : Type 1} → statement M
+put-refusal-spec =
+    tie.close
+    (tie.spec put-number-requires put-number-requires-2 put-line-feed-requires same-length returns)
