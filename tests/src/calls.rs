@@ -1,13 +1,7 @@
 //! The four calls as the tests make them. `capi::Archive` makes them through the archive, `oracle::memory::Model` in plain Rust.
 
+use crate::lent::{Memory, Record};
 use crate::oracle::ledger::Refusal;
-
-/// The record of a log of traces: N and the number of traces kept.
-#[derive(Clone, Copy, PartialEq, Eq, Debug)]
-pub struct Record {
-    pub activities: u32,
-    pub traces: u32,
-}
 
 /// The numbers of an accepted find.
 #[derive(Clone, Copy, PartialEq, Eq, Debug)]
@@ -17,11 +11,12 @@ pub struct FindAnswer {
     pub traces: u32,
 }
 
+/// Each call on a store is lent its memory, and sets the record there.
 pub trait Calls {
     fn open(&mut self, n: u32) -> Result<Record, Refusal>;
-    fn add(&mut self, record: Record, events: &mut [u8], ends: &mut [u32], trace: &[u8]) -> (Record, Result<(), Refusal>);
-    fn read(&mut self, record: Record, events: &mut [u8], ends: &mut [u32], log: &[u8]) -> (Record, Result<u32, Refusal>);
-    fn find(&mut self, record: Record, events: &[u8], ends: &[u32], threshold: u32, list: &mut [u16]) -> Result<FindAnswer, Refusal>;
+    fn add(&mut self, memory: &mut Memory, trace: &[u8]) -> Result<(), Refusal>;
+    fn read(&mut self, memory: &mut Memory, log: &[u8]) -> Result<u32, Refusal>;
+    fn find(&mut self, memory: &Memory, threshold: u32, list: &mut [u16]) -> Result<FindAnswer, Refusal>;
 }
 
 impl<C: Calls + ?Sized> Calls for &mut C {
@@ -29,15 +24,15 @@ impl<C: Calls + ?Sized> Calls for &mut C {
         (**self).open(n)
     }
 
-    fn add(&mut self, record: Record, events: &mut [u8], ends: &mut [u32], trace: &[u8]) -> (Record, Result<(), Refusal>) {
-        (**self).add(record, events, ends, trace)
+    fn add(&mut self, memory: &mut Memory, trace: &[u8]) -> Result<(), Refusal> {
+        (**self).add(memory, trace)
     }
 
-    fn read(&mut self, record: Record, events: &mut [u8], ends: &mut [u32], log: &[u8]) -> (Record, Result<u32, Refusal>) {
-        (**self).read(record, events, ends, log)
+    fn read(&mut self, memory: &mut Memory, log: &[u8]) -> Result<u32, Refusal> {
+        (**self).read(memory, log)
     }
 
-    fn find(&mut self, record: Record, events: &[u8], ends: &[u32], threshold: u32, list: &mut [u16]) -> Result<FindAnswer, Refusal> {
-        (**self).find(record, events, ends, threshold, list)
+    fn find(&mut self, memory: &Memory, threshold: u32, list: &mut [u16]) -> Result<FindAnswer, Refusal> {
+        (**self).find(memory, threshold, list)
     }
 }

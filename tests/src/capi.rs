@@ -2,7 +2,8 @@
 //! against the Rattle source but these tests. Beside what a call answers, the wrappers look at each number that it must leave or
 //! set: a call that leaves or sets another ends the test at once.
 
-use crate::calls::{Calls, FindAnswer, Record};
+use crate::calls::{Calls, FindAnswer};
+use crate::lent::{Memory, Record};
 use crate::oracle::ledger::Refusal;
 
 #[link(name = "capi", kind = "static")]
@@ -94,10 +95,11 @@ impl Answer {
 pub struct Archive;
 
 impl Archive {
-    pub fn is_sound(record: Record, events: &[u8], ends: &[u32]) -> bool {
-        let mut store = Store::new(record);
+    pub fn is_sound(memory: &Memory) -> bool {
+        let mut store = Store::new(memory.record);
+        let (events, ends) = (memory.events.get(), memory.ends.get());
         let said = unsafe { budgieleaf_is_sound(store.numbers(), events.as_ptr(), events.len(), ends.as_ptr(), ends.len()) };
-        assert_eq!(store.record(), record);
+        assert_eq!(store.record(), memory.record);
         said
     }
 }
@@ -114,8 +116,9 @@ impl Calls for Archive {
         Err(Refusal { number, detail: 0 })
     }
 
-    fn add(&mut self, record: Record, events: &mut [u8], ends: &mut [u32], trace: &[u8]) -> (Record, Result<(), Refusal>) {
-        let (mut store, mut answer) = (Store::new(record), Answer::new());
+    fn add(&mut self, memory: &mut Memory, trace: &[u8]) -> Result<(), Refusal> {
+        let (mut store, mut answer) = (Store::new(memory.record), Answer::new());
+        let (events, ends) = (memory.events.get_mut(), memory.ends.get_mut());
         let number = unsafe {
             budgieleaf_add(
                 store.numbers(),
@@ -128,12 +131,13 @@ impl Calls for Archive {
                 answer.numbers(),
             )
         };
-        let said = answer.said(number).map(|numbers| assert_eq!(numbers, [0, 0, 0]));
-        (store.record(), said)
+        memory.record = store.record();
+        answer.said(number).map(|numbers| assert_eq!(numbers, [0, 0, 0]))
     }
 
-    fn read(&mut self, record: Record, events: &mut [u8], ends: &mut [u32], log: &[u8]) -> (Record, Result<u32, Refusal>) {
-        let (mut store, mut answer) = (Store::new(record), Answer::new());
+    fn read(&mut self, memory: &mut Memory, log: &[u8]) -> Result<u32, Refusal> {
+        let (mut store, mut answer) = (Store::new(memory.record), Answer::new());
+        let (events, ends) = (memory.events.get_mut(), memory.ends.get_mut());
         let number = unsafe {
             budgieleaf_read(
                 store.numbers(),
@@ -146,15 +150,16 @@ impl Calls for Archive {
                 answer.numbers(),
             )
         };
-        let said = answer.said(number).map(|[added, second, third]| {
+        memory.record = store.record();
+        answer.said(number).map(|[added, second, third]| {
             assert_eq!([second, third], [0, 0]);
             u32::try_from(added).expect("a number of traces")
-        });
-        (store.record(), said)
+        })
     }
 
-    fn find(&mut self, record: Record, events: &[u8], ends: &[u32], threshold: u32, list: &mut [u16]) -> Result<FindAnswer, Refusal> {
-        let (mut store, mut answer) = (Store::new(record), Answer::new());
+    fn find(&mut self, memory: &Memory, threshold: u32, list: &mut [u16]) -> Result<FindAnswer, Refusal> {
+        let (mut store, mut answer) = (Store::new(memory.record), Answer::new());
+        let (events, ends) = (memory.events.get(), memory.ends.get());
         let number = unsafe {
             budgieleaf_find(
                 store.numbers(),
@@ -168,7 +173,7 @@ impl Calls for Archive {
                 answer.numbers(),
             )
         };
-        assert_eq!(store.record(), record, "find leaves the record");
+        assert_eq!(store.record(), memory.record, "find leaves the record");
         let number_of = |k: u64| u32::try_from(k).expect("a number of 32 bits");
         answer.said(number).map(|[listed, replayed, traces]| FindAnswer {
             listed: number_of(listed),

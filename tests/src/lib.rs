@@ -3,6 +3,7 @@
 pub mod calls;
 pub mod capi;
 pub mod gen;
+pub mod lent;
 pub mod memories;
 pub mod oracle;
 pub mod plain;

@@ -1,11 +1,10 @@
 //! Records and buffers that no history made: each way to be unsound, sound ones at every edge, and arbitrary ones.
 
-use crate::calls::Record;
 use crate::gen;
-use crate::play::{Lent, Memory};
+use crate::lent::{Lent, Memory, Record};
 use crate::rng::Rng;
 
-/// The parts of a memory before they are lent.
+/// The parts of a memory before they are lent, while its buffers may still grow and shrink.
 struct Parts {
     activities: u32,
     traces: u32,

@@ -3,7 +3,9 @@
 //! constraint that pruning keeps, and one before that where the list might not fit; no memory but what is lent. A replay keeps
 //! one state of the constraint's own automaton and looks the next one up.
 
-use crate::calls::{FindAnswer, Record};
+use crate::calls::FindAnswer;
+use crate::lent::{Memory, Record};
+use crate::oracle::finder::{room_for_all, NUMBERS};
 use crate::oracle::ledger::{refusal, Refusal};
 use crate::oracle::templates::{verdict, Verdict};
 use std::collections::HashMap;
@@ -82,23 +84,34 @@ impl Automaton {
     }
 }
 
-fn is_sound(record: Record, events: &[u8], ends: &[u32]) -> bool {
+/// A sound memory's record and slices, looked up once for all constraints.
+#[derive(Clone, Copy)]
+struct Sound<'a> {
+    record: Record,
+    events: &'a [u8],
+    ends: &'a [u32],
+}
+
+/// Nothing where the memory is not sound.
+fn sound(memory: &Memory) -> Option<Sound<'_>> {
+    let (record, events, ends) = (memory.record, memory.events.get(), memory.ends.get());
     let count = record.traces as usize;
     if !(1..=32).contains(&record.activities) || count > 4095 || count > ends.len() {
-        return false;
+        return None;
     }
     let mut last = 0;
     for &end in &ends[..count] {
         if end < last || end - last > 4096 {
-            return false;
+            return None;
         }
         last = end;
     }
-    last as usize <= events.len() && events[..last as usize].iter().all(|&x| (x as u32) < record.activities)
+    let declared = last as usize <= events.len() && events[..last as usize].iter().all(|&x| (x as u32) < record.activities);
+    declared.then_some(Sound { record, events, ends })
 }
 
 /// The kept traces as parts of the events.
-fn traces<'a>(record: Record, events: &'a [u8], ends: &'a [u32]) -> impl Iterator<Item = &'a [u8]> {
+fn traces(Sound { record, events, ends }: Sound<'_>) -> impl Iterator<Item = &[u8]> {
     let mut from = 0;
     ends[..record.traces as usize].iter().map(move |&end| {
         let trace = &events[from..end as usize];
@@ -124,11 +137,11 @@ pub fn by_library(trace: &[u8], x: u8) -> bool {
 }
 
 /// The kept traces that count for the constraint's class.
-fn support(has: impl Fn(&[u8], u8) -> bool, record: Record, events: &[u8], ends: &[u32], template: u8, a: u8, b: u8) -> u32 {
-    let all = traces(record, events, ends);
+fn support(has: impl Fn(&[u8], u8) -> bool, store: Sound, template: u8, a: u8, b: u8) -> u32 {
+    let all = traces(store);
     let count = match template {
         1..=3 | 7..=8 => all.filter(|w| has(w, a)).count(),
-        4..=6 => record.traces as usize,
+        4..=6 => store.record.traces as usize,
         9..=10 | 12 | 23..=24 => all.filter(|w| has(w, a) || has(w, b)).count(),
         _ => all.filter(|w| has(w, a) && has(w, b)).count(),
     };
@@ -143,13 +156,11 @@ fn meets(count: u32, threshold: u32, traces: u32) -> bool {
 fn walk(
     automaton: &Automaton,
     has: impl Fn(&[u8], u8) -> bool + Copy,
-    record: Record,
-    events: &[u8],
-    ends: &[u32],
+    store: Sound,
     threshold: u32,
-    mut listed: impl FnMut([u16; 4]),
+    mut listed: impl FnMut([u16; NUMBERS]),
 ) -> u32 {
-    let n = record.activities as u8;
+    let (n, kept) = (store.record.activities as u8, store.record.traces);
     let mut replayed = 0;
     for template in 1..=24u8 {
         for a in 0..n {
@@ -162,12 +173,12 @@ fn walk(
                 if template > 12 && a == b {
                     continue;
                 }
-                if !meets(support(has, record, events, ends, template, a, b), threshold, record.traces) {
+                if !meets(support(has, store, template, a, b), threshold, kept) {
                     continue;
                 }
-                let count = traces(record, events, ends).filter(|w| automaton.fulfilled(template, a, b, w)).count() as u32;
+                let count = traces(store).filter(|w| automaton.fulfilled(template, a, b, w)).count() as u32;
                 replayed += 1;
-                if meets(count, threshold, record.traces) {
+                if meets(count, threshold, kept) {
                     listed([template as u16, a as u16, b as u16, count as u16]);
                 }
             }
@@ -180,34 +191,30 @@ fn walk(
 pub fn find(
     automaton: &Automaton,
     has: impl Fn(&[u8], u8) -> bool + Copy,
-    record: Record,
-    events: &[u8],
-    ends: &[u32],
+    memory: &Memory,
     threshold: u32,
     list: &mut [u16],
 ) -> Result<FindAnswer, Refusal> {
-    if !is_sound(record, events, ends) {
-        return Err(refusal(1, 0));
-    }
+    let store = sound(memory).ok_or(refusal(1, 0))?;
     if !(1..=1000).contains(&threshold) {
         return Err(refusal(3, 0));
     }
-    if record.traces == 0 {
+    let Record { activities, traces } = store.record;
+    if traces == 0 {
         return Err(refusal(11, 0));
     }
-    let n = record.activities as usize;
-    if list.len() < 4 * (14 * n * n - 6 * n) {
+    if list.len() < room_for_all(activities) {
         let mut needed = 0;
-        walk(automaton, has, record, events, ends, threshold, |_| needed += 1);
-        if list.len() < 4 * needed {
+        walk(automaton, has, store, threshold, |_| needed += 1);
+        if list.len() < NUMBERS * needed {
             return Err(refusal(10, needed));
         }
     }
     let mut listed = 0;
-    let mut places = list.chunks_exact_mut(4);
-    let replayed = walk(automaton, has, record, events, ends, threshold, |rule| {
+    let mut places = list.chunks_exact_mut(NUMBERS);
+    let replayed = walk(automaton, has, store, threshold, |rule| {
         places.next().unwrap().copy_from_slice(&rule);
         listed += 1;
     });
-    Ok(FindAnswer { listed, replayed, traces: record.traces })
+    Ok(FindAnswer { listed, replayed, traces })
 }

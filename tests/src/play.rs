@@ -1,7 +1,9 @@
 //! Histories of calls, each compared with the model (every byte that is lent) and with the ledger (what is answered).
 
-use crate::calls::{Calls, FindAnswer, Record};
+use crate::calls::{Calls, FindAnswer};
 use crate::gen;
+use crate::lent::{Lent, Memory};
+use crate::oracle::finder::{room_for_all, NUMBERS};
 use crate::oracle::ledger::{Ledger, Refusal};
 use crate::oracle::memory::Model;
 use crate::rng::Rng;
@@ -12,56 +14,6 @@ pub enum Call {
     Add(Vec<u8>),
     Read(Vec<u8>),
     Find(u32, Lent<u16>),
-}
-
-/// A slice that is lent out of the middle of a larger one, so that a write beside it shows.
-#[derive(Clone, PartialEq, Eq, Debug)]
-pub struct Lent<T> {
-    whole: Vec<T>,
-    from: usize,
-    len: usize,
-}
-
-impl<T> Lent<T> {
-    pub fn new(rng: &mut Rng, len: usize, mut content: impl FnMut(&mut Rng) -> T) -> Lent<T> {
-        let (from, past) = (rng.within(1, 9), rng.within(1, 9));
-        let whole = (0..from + len + past).map(|_| content(rng)).collect();
-        Lent { whole, from, len }
-    }
-
-    /// A slice that holds just these.
-    pub fn of(rng: &mut Rng, content: &[T]) -> Lent<T>
-    where
-        T: Copy + Default,
-    {
-        let mut lent = Lent::new(rng, content.len(), |_| T::default());
-        lent.get_mut().copy_from_slice(content);
-        lent
-    }
-
-    pub fn get(&self) -> &[T] {
-        &self.whole[self.from..self.from + self.len]
-    }
-
-    pub fn get_mut(&mut self) -> &mut [T] {
-        &mut self.whole[self.from..self.from + self.len]
-    }
-}
-
-/// A record beside its buffers.
-#[derive(Clone, PartialEq, Eq)]
-pub struct Memory {
-    pub record: Record,
-    pub events: Lent<u8>,
-    pub ends: Lent<u32>,
-}
-
-impl std::fmt::Debug for Memory {
-    fn fmt(&self, f: &mut std::fmt::Formatter) -> std::fmt::Result {
-        let short = |s: String| if s.len() > 600 { format!("{}..", &s[..600]) } else { s };
-        let (events, ends) = (format!("{:?}", self.events.get()), format!("{:?}", self.ends.get()));
-        write!(f, "{:?} events {} ends {}", self.record, short(events), short(ends))
-    }
 }
 
 /// What a call answered, in one shape for all four.
@@ -76,25 +28,15 @@ pub enum Said {
 
 /// Makes one call on a memory.
 pub fn make(calls: &mut dyn Calls, memory: &mut Memory, call: &mut Call) -> Said {
-    let Memory { record, events, ends } = memory;
-    let (after, said) = match call {
-        Call::Open(n) => match calls.open(*n) {
-            Ok(opened) => (opened, Ok(Said::Opened)),
-            Err(r) => (*record, Err(r)),
-        },
-        Call::Add(trace) => {
-            let (after, said) = calls.add(*record, events.get_mut(), ends.get_mut(), trace);
-            (after, said.map(|()| Said::Added))
-        }
-        Call::Read(log) => {
-            let (after, said) = calls.read(*record, events.get_mut(), ends.get_mut(), log);
-            (after, said.map(Said::Read))
-        }
-        Call::Find(threshold, list) => {
-            (*record, calls.find(*record, events.get(), ends.get(), *threshold, list.get_mut()).map(Said::Found))
-        }
+    let said = match call {
+        Call::Open(n) => calls.open(*n).map(|opened| {
+            memory.record = opened;
+            Said::Opened
+        }),
+        Call::Add(trace) => calls.add(memory, trace).map(|()| Said::Added),
+        Call::Read(log) => calls.read(memory, log).map(Said::Read),
+        Call::Find(threshold, list) => calls.find(memory, *threshold, list.get_mut()).map(Said::Found),
     };
-    *record = after;
     said.unwrap_or_else(Said::Refused)
 }
 
@@ -126,14 +68,8 @@ pub fn compare(subject: &mut dyn Calls, memory: &mut Memory, call: &Call) -> Res
     if !agree(wanted, said, call, before.record.activities) {
         return failed("answer");
     }
-    if memory.record != expected.record {
-        return failed("record");
-    }
-    if memory.events != expected.events {
-        return failed("events");
-    }
-    if memory.ends != expected.ends {
-        return failed("ends");
+    if let Some(part) = memory.difference(&expected) {
+        return failed(part);
     }
     if let (Call::Find(_, list), Call::Find(_, wanted)) = (&subjects, &modelled) {
         if list != wanted {
@@ -171,11 +107,11 @@ pub struct History<C> {
 }
 
 impl<C: Calls> History<C> {
-    /// A fresh log of traces beside buffers of any content.
+    /// A fresh store beside buffers of any content.
     pub fn fresh(mut subject: C, rng: &mut Rng, n: u32, events_room: usize, ends_room: usize) -> History<C> {
         let events = Lent::new(rng, events_room, |rng| rng.byte());
         let ends = Lent::new(rng, ends_room, |rng| rng.next() as u32 >> rng.below(32));
-        let record = subject.open(n).expect("a fresh log is opened");
+        let record = subject.open(n).expect("a fresh store is opened");
         let ledger = Ledger::fresh(n, events_room, ends_room);
         History { subject, memory: Memory { record, events, ends }, ledger, tally: [0; 13] }
     }
@@ -217,25 +153,24 @@ fn added_trace(rng: &mut Rng, n: u32, longest: usize) -> Vec<u8> {
     w
 }
 
-/// A slice for the list: too short by little or much, exact, or longer; a length that is no multiple of four, too.
+/// A slice for the list: too short by little or much, exact, or longer; a length that is no multiple of a constraint's, too.
 fn list(rng: &mut Rng, ledger: &Ledger, threshold: u32) -> Lent<u16> {
     let needed = match rng.below(3) {
-        0 => rng.within(0, 60),
+        0 => rng.within(0, 15 * NUMBERS),
         _ => match ledger.find(threshold, 0) {
-            Err(Refusal { number: 10, detail }) => 4 * detail as usize,
-            _ => rng.below(9),
+            Err(Refusal { number: 10, detail }) => NUMBERS * detail as usize,
+            _ => rng.within(0, 2 * NUMBERS),
         },
     };
-    // Room for all constraints that there are.
-    let all = 4 * (14 * ledger.n as usize - 6) * ledger.n as usize;
+    let all = room_for_all(ledger.n);
     let len = match rng.below(10) {
-        0 => needed.saturating_sub(rng.within(1, 5)),
+        0 => needed.saturating_sub(rng.within(1, NUMBERS + 1)),
         1 => rng.below(needed + 1),
         2 => 0,
-        3 => needed + rng.within(1, 9),
-        4 => needed + 1000,
+        3 => needed + rng.within(1, 2 * NUMBERS + 1),
+        4 => needed + 250 * NUMBERS,
         5 => all,
-        6 => all - rng.within(1, 5),
+        6 => all - rng.within(1, NUMBERS + 1),
         _ => needed,
     };
     Lent::new(rng, len, |rng| rng.next() as u16)

@@ -1,7 +1,9 @@
 //! Tests of the tests: with the model itself as the subject all cases pass, with a faulty one the fault is reported.
 
-use budgieleaf_tests::calls::{Calls, FindAnswer, Record};
+use budgieleaf_tests::calls::{Calls, FindAnswer};
+use budgieleaf_tests::lent::{Memory, Record};
 use budgieleaf_tests::memories;
+use budgieleaf_tests::oracle::finder::NUMBERS;
 use budgieleaf_tests::oracle::ledger::Refusal;
 use budgieleaf_tests::oracle::memory::{is_sound, Model};
 use budgieleaf_tests::play::{play, Sizes};
@@ -87,7 +89,8 @@ impl Faulty {
         }
     }
 
-    fn buffers(&mut self, accepted: bool, before: Record, after: &mut Record, events: &mut [u8], ends: &mut [u32]) {
+    fn memory(&mut self, accepted: bool, before: Record, memory: &mut Memory) {
+        let (after, events, ends) = (&mut memory.record, memory.events.get_mut(), memory.ends.get_mut());
         let last = if after.traces == 0 { 0 } else { ends[after.traces as usize - 1] as usize };
         if self.when(Fault::EventKept, accepted && last > 0) {
             events[0] = (events[0] + 1) % 2;
@@ -118,32 +121,34 @@ impl Calls for Faulty {
         }
     }
 
-    fn add(&mut self, record: Record, events: &mut [u8], ends: &mut [u32], trace: &[u8]) -> (Record, Result<(), Refusal>) {
-        let (mut after, mut said) = Model.add(record, events, ends, trace);
+    fn add(&mut self, memory: &mut Memory, trace: &[u8]) -> Result<(), Refusal> {
+        let before = memory.record;
+        let mut said = Model.add(memory, trace);
         if let Err(r) = &mut said {
             self.refusal(r);
-            let declared = trace.iter().position(|&x| (x as u32) < record.activities);
+            let declared = trace.iter().position(|&x| (x as u32) < before.activities);
             if self.when(Fault::PlaceOfDeclared, r.number == 6 && declared.is_some()) {
                 r.detail = declared.unwrap() as u64 + 1;
             }
         }
-        self.buffers(said.is_ok(), record, &mut after, events, ends);
-        (after, said)
+        self.memory(said.is_ok(), before, memory);
+        said
     }
 
-    fn read(&mut self, record: Record, events: &mut [u8], ends: &mut [u32], log: &[u8]) -> (Record, Result<u32, Refusal>) {
-        let (mut after, mut said) = Model.read(record, events, ends, log);
+    fn read(&mut self, memory: &mut Memory, log: &[u8]) -> Result<u32, Refusal> {
+        let before = memory.record;
+        let mut said = Model.read(memory, log);
         match &mut said {
             Err(r) => self.refusal(r),
             Ok(added) if self.when(Fault::ReadCount, true) => *added += 1,
             _ => {}
         }
-        self.buffers(said.is_ok(), record, &mut after, events, ends);
-        (after, said)
+        self.memory(said.is_ok(), before, memory);
+        said
     }
 
-    fn find(&mut self, record: Record, events: &[u8], ends: &[u32], threshold: u32, list: &mut [u16]) -> Result<FindAnswer, Refusal> {
-        let mut said = Model.find(record, events, ends, threshold, list);
+    fn find(&mut self, memory: &Memory, threshold: u32, list: &mut [u16]) -> Result<FindAnswer, Refusal> {
+        let mut said = Model.find(memory, threshold, list);
         match &mut said {
             Err(r) => {
                 self.refusal(r);
@@ -152,15 +157,15 @@ impl Calls for Faulty {
                 }
             }
             Ok(found) => {
-                let used = 4 * found.listed as usize;
+                let used = NUMBERS * found.listed as usize;
                 if self.when(Fault::ListPast, used < list.len()) {
                     list[used] ^= 1;
                 }
                 if self.when(Fault::ListEntry, used > 0) {
                     list[used - 1] ^= 1;
                 }
-                if self.when(Fault::ListOrder, used >= 8) {
-                    list[..8].rotate_left(4);
+                if self.when(Fault::ListOrder, used >= 2 * NUMBERS) {
+                    list[..2 * NUMBERS].rotate_left(NUMBERS);
                 }
                 found.listed += self.when(Fault::Listed, true) as u32;
                 found.replayed += self.when(Fault::Replayed, true) as u32;
@@ -188,18 +193,17 @@ fn each_fault_is_reported() {
 #[test]
 fn memories_are_sound_or_not_as_meant() {
     let mut rng = Rng::new(7);
-    let sound = |m: &budgieleaf_tests::play::Memory| is_sound(m.record, m.events.get(), m.ends.get());
     for _ in 0..300 {
-        assert!(sound(&memories::sound(&mut rng)));
+        assert!(is_sound(&memories::sound(&mut rng)));
         for (kind, name) in memories::UNSOUND.iter().enumerate() {
             let memory = memories::unsound(&mut rng, kind);
-            assert!(!sound(&memory), "{name}: {memory:?}");
+            assert!(!is_sound(&memory), "{name}: {memory:?}");
         }
     }
     for _ in 0..30 {
-        assert!(sound(&memories::at_the_limits(&mut rng)));
+        assert!(is_sound(&memories::at_the_limits(&mut rng)));
     }
-    let many: Vec<bool> = (0..2000).map(|_| sound(&memories::arbitrary(&mut rng))).collect();
+    let many: Vec<bool> = (0..2000).map(|_| is_sound(&memories::arbitrary(&mut rng))).collect();
     let count = many.iter().filter(|&&s| s).count();
     assert!(count > 200 && count < 1800, "{count} of 2000 are sound");
 }

@@ -4,8 +4,10 @@
 use budgieleaf_tests::calls::{Calls, FindAnswer};
 use budgieleaf_tests::capi::Archive;
 use budgieleaf_tests::gen;
+use budgieleaf_tests::lent::Lent;
+use budgieleaf_tests::oracle::finder::NUMBERS;
 use budgieleaf_tests::oracle::ledger::refusal;
-use budgieleaf_tests::play::{play, Call, History, Lent, Said, Sizes};
+use budgieleaf_tests::play::{play, Call, History, Said, Sizes};
 use budgieleaf_tests::rng::{cases, Rng};
 
 fn random(name: &str, seed: u64, default: usize, answers: &[usize], sizes: impl Fn(&mut Rng) -> Sizes) {
@@ -49,6 +51,10 @@ fn list(rng: &mut Rng, len: usize) -> Lent<u16> {
     Lent::new(rng, len, |rng| rng.next() as u16)
 }
 
+fn list_for(rng: &mut Rng, rules: usize) -> Lent<u16> {
+    list(rng, NUMBERS * rules)
+}
+
 /// Up to 4095 traces, or as many as there are ends; then 8 for a trace and for a log's line, an empty log is taken, and find
 /// goes on as before.
 #[test]
@@ -69,7 +75,7 @@ fn up_to_the_last_trace() {
         assert_eq!(call(Call::Read(b"     1  0\n".to_vec())), Said::Refused(refusal(8, 1)));
         assert_eq!(call(Call::Read(b"     1  3\n".to_vec())), Said::Refused(refusal(6, 1)));
         assert_eq!(call(Call::Read(vec![])), Said::Read(0));
-        let listed = call(Call::Find(300, list(rng, 400)));
+        let listed = call(Call::Find(300, list_for(rng, 100)));
         assert!(matches!(listed, Said::Found(FindAnswer { traces, .. }) if traces == most as u32), "{listed:?}");
     }
 }
@@ -91,10 +97,10 @@ fn up_to_the_last_event() {
     assert_eq!(call(Call::Add(vec![])), Said::Added);
     assert_eq!(call(Call::Add(vec![0])), Said::Refused(refusal(9, 0)));
     assert_eq!(call(Call::Read(lines(1))), Said::Refused(refusal(9, 1)));
-    assert!(matches!(call(Call::Find(500, list(rng, 400))), Said::Found(FindAnswer { traces: 4, .. })));
+    assert!(matches!(call(Call::Find(500, list_for(rng, 100))), Said::Found(FindAnswer { traces: 4, .. })));
     assert_eq!(call(Call::Open(33)), Said::Refused(refusal(2, 0)));
     assert_eq!(call(Call::Open(32)), Said::Opened);
-    assert_eq!(call(Call::Find(500, list(rng, 400))), Said::Refused(refusal(11, 0)));
+    assert_eq!(call(Call::Find(500, list_for(rng, 100))), Said::Refused(refusal(11, 0)));
 }
 
 /// All numbers of rules from too few to enough, one by one.
@@ -108,7 +114,7 @@ fn lists_of_every_length() {
     }
     for threshold in [1, 400, 800, 1000] {
         let Err(needed) = history.ledger.find(threshold, 0) else { panic!("some rule is listed") };
-        for len in 0..4 * needed.detail as usize + 6 {
+        for len in 0..NUMBERS * (needed.detail as usize + 1) + 2 {
             history.call(Call::Find(threshold, list(rng, len))).unwrap();
         }
     }
@@ -123,8 +129,8 @@ fn rows_of_document_01() {
     assert_eq!(call(Call::Add(vec![0, 1])), Said::Added);
     assert_eq!(call(Call::Add(vec![0, 0, 1])), Said::Added);
     let answer = FindAnswer { listed: 18, replayed: 44, traces: 2 };
-    assert_eq!(call(Call::Find(1000, list(rng, 72))), Said::Found(answer));
-    assert_eq!(call(Call::Find(1000, list(rng, 71))), Said::Refused(refusal(10, 18)));
+    assert_eq!(call(Call::Find(1000, list_for(rng, 18))), Said::Found(answer));
+    assert_eq!(call(Call::Find(1000, list(rng, NUMBERS * 18 - 1))), Said::Refused(refusal(10, 18)));
     assert_eq!(call(Call::Open(32)), Said::Opened);
     assert_eq!(call(Call::Open(33)), Said::Refused(refusal(2, 0)));
     assert_eq!(call(Call::Add(vec![31; 4096])), Said::Added);
@@ -139,7 +145,7 @@ fn the_order_of_traces_does_not_matter() {
         let n = gen::activities(rng);
         let count = rng.within(1, 12);
         let mut traces = gen::traces(rng, n, count, 10);
-        let (threshold, lent) = (gen::threshold(rng), list(rng, 60000));
+        let (threshold, lent) = (gen::threshold(rng), list_for(rng, 15000));
         let mut lists = Vec::new();
         for _ in 0..2 {
             rng.shuffle(&mut traces);
@@ -147,8 +153,8 @@ fn the_order_of_traces_does_not_matter() {
             for trace in &traces {
                 assert_eq!(history.call(Call::Add(trace.clone())).unwrap(), Said::Added);
             }
-            let (memory, mut slice) = (&history.memory, lent.clone());
-            let said = Archive.find(memory.record, memory.events.get(), memory.ends.get(), threshold, slice.get_mut());
+            let mut slice = lent.clone();
+            let said = Archive.find(&history.memory, threshold, slice.get_mut());
             lists.push((said, slice));
         }
         assert!(lists[0] == lists[1]);
@@ -162,6 +168,6 @@ fn a_find_at_the_limits() {
     let mut history = History::fresh(Archive, rng, 32, 20000, 4095);
     let traces: Vec<Vec<u8>> = (0..4095).map(|_| (0..4).map(|_| rng.below(32) as u8).collect()).collect();
     assert_eq!(history.call(Call::Read(gen::log(rng, &traces))).unwrap(), Said::Read(4095));
-    let said = history.call(Call::Find(100, list(rng, 60000))).unwrap();
+    let said = history.call(Call::Find(100, list_for(rng, 15000))).unwrap();
     assert!(matches!(said, Said::Found(FindAnswer { traces: 4095, .. })), "{said:?}");
 }

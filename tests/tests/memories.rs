@@ -4,10 +4,12 @@
 use budgieleaf_tests::calls::{Calls, FindAnswer};
 use budgieleaf_tests::capi::Archive;
 use budgieleaf_tests::gen;
+use budgieleaf_tests::lent::{Lent, Memory};
 use budgieleaf_tests::memories::{self, UNSOUND};
+use budgieleaf_tests::oracle::finder::NUMBERS;
 use budgieleaf_tests::oracle::ledger::refusal;
 use budgieleaf_tests::oracle::memory::is_sound;
-use budgieleaf_tests::play::{compare, Call, Lent, Memory, Said};
+use budgieleaf_tests::play::{compare, Call, Said};
 use budgieleaf_tests::rng::{cases, Rng};
 
 /// An add, a read and a find whose arguments are right or wrong themselves.
@@ -21,15 +23,14 @@ fn some_calls(rng: &mut Rng, memory: &Memory) -> Vec<Call> {
     let traces = gen::traces(rng, n, count, 4);
     let log = gen::maybe_damaged_log(rng, n, &traces);
     let threshold = if rng.chance(15) { rng.pick(&[0, 1001, u32::MAX]) } else { gen::threshold(rng) };
-    let room = rng.pick(&[0, 3, 4, 100, 1000]);
+    let room = rng.pick(&[0, NUMBERS - 1, NUMBERS, 25 * NUMBERS, 250 * NUMBERS]);
     let list = Lent::new(rng, room, |rng| rng.next() as u16);
     vec![Call::Add(trace), Call::Read(log), Call::Find(threshold, list)]
 }
 
 /// Soundness, and each call on a copy of the memory.
 fn check(rng: &mut Rng, name: &str, memory: &Memory) -> Vec<Said> {
-    let (events, ends) = (memory.events.get(), memory.ends.get());
-    assert_eq!(Archive::is_sound(memory.record, events, ends), is_sound(memory.record, events, ends), "{name}: {memory:?}");
+    assert_eq!(Archive::is_sound(memory), is_sound(memory), "{name}: {memory:?}");
     let calls = some_calls(rng, memory);
     calls.iter().map(|call| compare(&mut Archive, &mut memory.clone(), call).unwrap_or_else(|e| panic!("{name}: {e}"))).collect()
 }
@@ -84,20 +85,19 @@ fn arbitrary() {
 #[test]
 fn slices_longer_than_32_bits_count() {
     let beyond = (1usize << 32) + 5;
-    let (mut events, mut ends) = (vec![0u8; beyond], [7u32; 3]);
-    let record = Archive.open(1).unwrap();
+    let opened = Archive.open(1).unwrap();
+    let mut memory = Memory::of(opened, vec![0; beyond], vec![7; 3]);
     let mut long = vec![0u8; beyond];
-    assert_eq!(Archive.add(record, &mut events, &mut ends, &long), (record, Err(refusal(7, 0))));
+    assert_eq!((Archive.add(&mut memory, &long), memory.record), (Err(refusal(7, 0)), opened));
     long[beyond - 1] = 1;
-    assert_eq!(Archive.add(record, &mut events, &mut ends, &long), (record, Err(refusal(6, beyond))));
+    assert_eq!((Archive.add(&mut memory, &long), memory.record), (Err(refusal(6, beyond)), opened));
     drop(long);
-    assert_eq!(ends, [7; 3]);
-    let (record, said) = Archive.add(record, &mut events, &mut ends, &[0; 9]);
-    assert_eq!((record.traces, said), (1, Ok(())));
-    let (record, said) = Archive.read(record, &mut events, &mut ends, b"     1  0\n");
-    assert_eq!((record.traces, said, ends), (2, Ok(1), [9, 10, 7]));
+    assert_eq!(memory.ends.get(), [7; 3]);
+    assert_eq!((Archive.add(&mut memory, &[0; 9]), memory.record.traces), (Ok(()), 1));
+    assert_eq!((Archive.read(&mut memory, b"     1  0\n"), memory.record.traces), (Ok(1), 2));
+    assert_eq!(memory.ends.get(), [9, 10, 7]);
     let mut list = vec![0u16; beyond];
-    let said = Archive.find(record, &events, &ends, 1000, &mut list);
+    let said = Archive.find(&memory, 1000, &mut list);
     assert_eq!(said, Ok(FindAnswer { listed: 3, replayed: 8, traces: 2 }));
-    assert_eq!(list[..16], [1, 0, 0, 2, 7, 0, 0, 2, 8, 0, 0, 2, 0, 0, 0, 0]);
+    assert_eq!(list[..4 * NUMBERS], [[1, 0, 0, 2], [7, 0, 0, 2], [8, 0, 0, 2], [0; NUMBERS]].concat());
 }

@@ -1,6 +1,7 @@
 //! The plain finder of the benchmark gives what the model gives.
 
 use budgieleaf_tests::calls::Calls;
+use budgieleaf_tests::oracle::finder::NUMBERS;
 use budgieleaf_tests::oracle::memory::Model;
 use budgieleaf_tests::plain::{by_bytes, by_library, find, Automaton};
 use budgieleaf_tests::rng::{cases, Rng};
@@ -12,14 +13,14 @@ fn the_plain_finder_agrees_with_the_model() {
     let automaton = Automaton::new();
     for case in 0..cases(600) {
         let memory = if case % 3 == 0 { memories::arbitrary(rng) } else { memories::sound(rng) };
-        let (threshold, room) = (gen::threshold(rng), rng.pick(&[10, 400, 60000]));
+        let (threshold, room) = (gen::threshold(rng), rng.pick(&[2 * NUMBERS + 2, 100 * NUMBERS, 15000 * NUMBERS]));
         let lists: Vec<_> = (0..3)
             .map(|which| {
-                let (events, ends, mut list) = (memory.events.get(), memory.ends.get(), vec![7; room]);
+                let mut list = vec![7; room];
                 let said = match which {
-                    0 => Model.find(memory.record, events, ends, threshold, &mut list),
-                    1 => find(&automaton, by_bytes, memory.record, events, ends, threshold, &mut list),
-                    _ => find(&automaton, by_library, memory.record, events, ends, threshold, &mut list),
+                    0 => Model.find(&memory, threshold, &mut list),
+                    1 => find(&automaton, by_bytes, &memory, threshold, &mut list),
+                    _ => find(&automaton, by_library, &memory, threshold, &mut list),
                 };
                 (said, list)
             })

@@ -3,8 +3,10 @@
 //!     cargo run --release --bin bench                   times and their ratios
 //!     cargo run --release --bin bench -- instructions   instructions for each event replayed, counted by valgrind
 
-use budgieleaf_tests::calls::{Calls, FindAnswer, Record};
+use budgieleaf_tests::calls::{Calls, FindAnswer};
 use budgieleaf_tests::capi::Archive;
+use budgieleaf_tests::lent::{Memory, Record};
+use budgieleaf_tests::oracle::finder::{room_for_all, NUMBERS};
 use budgieleaf_tests::plain::{by_bytes, by_library, find, Automaton};
 use budgieleaf_tests::rng::Rng;
 use std::hint::black_box;
@@ -12,9 +14,7 @@ use std::process::Command;
 
 struct Log {
     name: &'static str,
-    record: Record,
-    events: Vec<u8>,
-    ends: Vec<u32>,
+    memory: Memory,
     threshold: u32,
     /// Whether the list has room for all constraints; otherwise just for those that are listed, and a find passes twice.
     roomy: bool,
@@ -26,14 +26,17 @@ impl Log {
         self
     }
 
+    fn events(&self) -> usize {
+        self.memory.events.get().len()
+    }
+
     fn list(&self, automaton: &Automaton) -> Vec<u16> {
-        let n = self.record.activities as usize;
-        let all = vec![0; 4 * (14 * n - 6) * n];
+        let all = vec![0; room_for_all(self.memory.record.activities)];
         if self.roomy {
             return all;
         }
         let listed = bench_find(1, automaton, self, &mut all.clone()).unwrap().listed;
-        all[..4 * listed as usize].to_vec()
+        all[..NUMBERS * listed as usize].to_vec()
     }
 }
 
@@ -52,7 +55,8 @@ fn log_of(name: &'static str, activities: u32, occurring: u32, traces: usize, le
         events.extend((0..length).map(|i| ((i + phase + rng.below(3)) % n) as u8));
         ends.push(events.len() as u32);
     }
-    Log { name, record: Record { activities, traces: traces as u32 }, events, ends, threshold, roomy: true }
+    let memory = Memory::of(Record { activities, traces: traces as u32 }, events, ends);
+    Log { name, memory, threshold, roomy: true }
 }
 
 fn logs(n: u32) -> Vec<Log> {
@@ -89,11 +93,11 @@ const FINDERS: [&str; 3] = ["archive", "plain", "library"];
 #[no_mangle]
 #[inline(never)]
 fn bench_find(which: usize, automaton: &Automaton, log: &Log, list: &mut [u16]) -> Option<FindAnswer> {
-    let Log { record, events, ends, threshold, .. } = black_box(log);
+    let Log { memory, threshold, .. } = black_box(log);
     match which {
-        0 => Archive.find(*record, events, ends, *threshold, list).ok(),
-        1 => find(automaton, by_bytes, *record, events, ends, *threshold, list).ok(),
-        _ => find(automaton, by_library, *record, events, ends, *threshold, list).ok(),
+        0 => Archive.find(memory, *threshold, list).ok(),
+        1 => find(automaton, by_bytes, memory, *threshold, list).ok(),
+        _ => find(automaton, by_library, memory, *threshold, list).ok(),
     }
 }
 
@@ -155,8 +159,8 @@ fn print_times() {
                 "{:<20} {:>3} {:>6} {:>6} {:>9} {:>8} {:>10.4} {:>10.4} {:>10.4} {:>10.2} {:>12.2}",
                 log.name,
                 n,
-                log.record.traces,
-                log.events.len(),
+                log.memory.record.traces,
+                log.events(),
                 log.threshold,
                 said.replayed,
                 t[0] * 1e3,
@@ -195,14 +199,14 @@ fn print_instructions() {
         let mut list = log.list(&automaton);
         let said = bench_find(2, &automaton, log, &mut list).unwrap();
         let passes = if log.roomy { 1 } else { 2 };
-        let replayed = passes * said.replayed as u64 * log.events.len() as u64;
+        let replayed = passes * said.replayed as u64 * log.events() as u64;
         let each = [0, 1, 2].map(|which| instructions(which, at, list.len()) as f64 / replayed as f64);
         println!(
             "{:<20} {:>3} {:>6} {:>6} {:>9} {:>15} {:>8.1} {:>8.1} {:>9.1} {:>10.2} {:>12.2}",
             log.name,
-            log.record.activities,
-            log.record.traces,
-            log.events.len(),
+            log.memory.record.activities,
+            log.memory.record.traces,
+            log.events(),
             log.threshold,
             replayed,
             each[0],

@@ -1,12 +1,13 @@
 //! Every example of document 01, computed by this implementation.
 
 use super::columns::{field, justified, line, Line};
-use super::finder::{constraints, find, meets, Found};
+use super::finder::{constraints, find, meets, room_for_all, Found, NUMBERS};
 use super::findrules::output;
 use super::ledger::{opens, refusal, Ledger};
 use super::memory::{is_sound, Model};
 use super::templates::{verdict, Verdict, Verdict::*};
-use crate::calls::{Calls, Record};
+use crate::calls::Calls;
+use crate::lent::{Memory, Record};
 
 const SAMPLE: &str = concat!(
     "    15    18     1\n",
@@ -92,6 +93,7 @@ fn a_trace_of_4096_is_taken_and_4097_refused() {
 fn fourteen_n_n_less_six_n_constraints() {
     for n in 1..=32 {
         assert_eq!(constraints(n).len() as u32, 14 * n * n - 6 * n);
+        assert_eq!(NUMBERS * constraints(n).len(), room_for_all(n));
     }
 }
 
@@ -170,8 +172,7 @@ fn a_refused_read_changes_nothing() {
 
 #[test]
 fn soundness_at_its_edges() {
-    let events = [1u8; 5000];
-    let sound = |activities, traces, ends: &[u32]| is_sound(Record { activities, traces }, &events, ends);
+    let sound = |activities, traces, ends: &[u32]| is_sound(&Memory::of(Record { activities, traces }, vec![1; 5000], ends.to_vec()));
     assert!(sound(32, 0, &[]) && sound(2, 1, &[4096]) && sound(2, 2, &[4096, 5000]) && sound(2, 1, &[0, 9999]));
     assert!(!sound(0, 0, &[]) && !sound(33, 0, &[]) && !sound(2, 1, &[]) && !sound(2, 1, &[4097]));
     assert!(!sound(2, 2, &[4096, 4095]) && !sound(2, 2, &[4096, 5001]) && !sound(1, 1, &[1]));
@@ -180,14 +181,11 @@ fn soundness_at_its_edges() {
 
 #[test]
 fn the_model_writes_only_what_is_kept() {
-    let (mut events, mut ends) = ([9u8; 6], [7u32; 3]);
-    let record = Model.open(3).unwrap();
-    let (record, said) = Model.add(record, &mut events, &mut ends, &[2, 0]);
-    assert_eq!(said, Ok(()));
-    let (record, said) = Model.read(record, &mut events, &mut ends, b"     5  1\n");
-    assert_eq!((said, record), (Ok(1), Record { activities: 3, traces: 2 }));
-    assert_eq!((events, ends), ([2, 0, 1, 9, 9, 9], [2, 3, 7]));
-    let (after, said) = Model.add(record, &mut events, &mut ends, &[0, 3, 4]);
-    assert_eq!((after, said), (record, Err(refusal(6, 2))));
-    assert_eq!((events, ends), ([2, 0, 1, 9, 9, 9], [2, 3, 7]));
+    let mut memory = Memory::of(Model.open(3).unwrap(), vec![9; 6], vec![7; 3]);
+    assert_eq!(Model.add(&mut memory, &[2, 0]), Ok(()));
+    assert_eq!(Model.read(&mut memory, b"     5  1\n"), Ok(1));
+    let after = Memory::of(Record { activities: 3, traces: 2 }, vec![2, 0, 1, 9, 9, 9], vec![2, 3, 7]);
+    assert_eq!(memory, after);
+    assert_eq!(Model.add(&mut memory, &[0, 3, 4]), Err(refusal(6, 2)));
+    assert_eq!(memory, after);
 }

@@ -3,6 +3,14 @@
 
 use super::templates::{occurs, verdict, Verdict};
 
+/// The numbers that a constraint takes in the list: template, a, b and fulfilled traces.
+pub const NUMBERS: usize = 4;
+
+/// The length of a list with room for all constraints below n.
+pub fn room_for_all(n: u32) -> usize {
+    NUMBERS * (14 * n as usize - 6) * n as usize
+}
+
 #[derive(Clone, Copy, PartialEq, Eq, Debug)]
 pub struct Constraint {
     pub template: u8,
@@ -73,8 +81,8 @@ fn is_kept(c: Constraint, s: &Support, threshold: u32, r: usize) -> bool {
 
 #[derive(Clone, PartialEq, Eq, Debug)]
 pub struct Found {
-    /// Template, a, b and fulfilled traces of each constraint listed.
-    pub list: Vec<[u16; 4]>,
+    /// The numbers of each constraint listed.
+    pub list: Vec<[u16; NUMBERS]>,
     pub replayed: u32,
     pub traces: u32,
 }

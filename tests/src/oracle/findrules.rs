@@ -1,7 +1,7 @@
 //! The program findrules, from its input to its output.
 
 use super::columns::{field, justified};
-use super::finder::Found;
+use super::finder::{Found, NUMBERS};
 use super::ledger::{opens, refusal, Ledger, Refusal};
 
 pub const MOST_INPUT: usize = 65536;
@@ -28,7 +28,7 @@ pub fn answer(input: &[u8]) -> Result<Found, Refusal> {
     }
     let mut ledger = Ledger::fresh(n, EVENTS, ENDS);
     ledger.read(&input[8..])?;
-    ledger.find(threshold, 4 * RULES)
+    ledger.find(threshold, NUMBERS * RULES)
 }
 
 fn printed(found: &Found) -> String {

@@ -2,7 +2,7 @@
 //! works out by itself what each call answers.
 
 use super::columns;
-use super::finder::{self, Found};
+use super::finder::{self, Found, NUMBERS};
 
 pub const LONGEST_TRACE: usize = 4096;
 pub const MOST_TRACES: usize = 4095;
@@ -122,7 +122,7 @@ impl Ledger {
             return Err(refusal(11, 0));
         }
         let found = finder::find(self.n, &self.traces, threshold);
-        if list_room < 4 * found.list.len() {
+        if list_room < NUMBERS * found.list.len() {
             return Err(refusal(10, found.list.len()));
         }
         Ok(found)

@@ -1,12 +1,14 @@
 //! The calls over any record and any buffers: soundness first, then the ledger's answer over the kept traces, then what is
 //! written. `Model` makes them through `Calls`, as the archive does.
 
-use super::finder::Found;
+use super::finder::{Found, NUMBERS};
 use super::ledger::{opens, refusal, Ledger, Refusal, LONGEST_TRACE, MOST_TRACES};
-use crate::calls::{Calls, FindAnswer, Record};
+use crate::calls::{Calls, FindAnswer};
+use crate::lent::{Memory, Record};
 
-pub fn is_sound(record: Record, events: &[u8], ends: &[u32]) -> bool {
-    let (n, count) = (record.activities as usize, record.traces as usize);
+pub fn is_sound(memory: &Memory) -> bool {
+    let (events, ends) = (memory.events.get(), memory.ends.get());
+    let (n, count) = (memory.record.activities as usize, memory.record.traces as usize);
     if !(1..=32).contains(&n) || count > MOST_TRACES || count > ends.len() {
         return false;
     }
@@ -18,42 +20,41 @@ pub fn is_sound(record: Record, events: &[u8], ends: &[u32]) -> bool {
 }
 
 /// The ledger of a sound memory's kept traces.
-pub fn kept(record: Record, events: &[u8], ends: &[u32]) -> Ledger {
-    let mut ledger = Ledger::fresh(record.activities, events.len(), ends.len());
+pub fn kept(memory: &Memory) -> Ledger {
+    let (events, ends) = (memory.events.get(), memory.ends.get());
+    let mut ledger = Ledger::fresh(memory.record.activities, events.len(), ends.len());
     let mut start = 0;
-    for &end in &ends[..record.traces as usize] {
+    for &end in &ends[..memory.record.traces as usize] {
         ledger.traces.push(events[start..end as usize].to_vec());
         start = end as usize;
     }
     ledger
 }
 
-/// Writes a ledger's traces from number `first` on.
-fn write(ledger: &Ledger, first: usize, events: &mut [u8], ends: &mut [u32]) {
+/// Writes those of a ledger's traces that a memory does not keep yet.
+fn write(ledger: &Ledger, memory: &mut Memory) {
+    let first = memory.record.traces as usize;
+    let (events, ends) = (memory.events.get_mut(), memory.ends.get_mut());
     let mut at: usize = ledger.traces[..first].iter().map(Vec::len).sum();
     for (k, trace) in ledger.traces.iter().enumerate().skip(first) {
         events[at..at + trace.len()].copy_from_slice(trace);
         at += trace.len();
         ends[k] = at as u32;
     }
+    memory.record.traces = ledger.traces.len() as u32;
 }
 
 pub struct Model;
 
 impl Model {
-    fn grow<T>(
-        record: Record,
-        events: &mut [u8],
-        ends: &mut [u32],
-        call: impl FnOnce(&mut Ledger) -> Result<T, Refusal>,
-    ) -> (Record, Result<T, Refusal>) {
-        if !is_sound(record, events, ends) {
-            return (record, Err(refusal(1, 0)));
+    fn grow<T>(memory: &mut Memory, call: impl FnOnce(&mut Ledger) -> Result<T, Refusal>) -> Result<T, Refusal> {
+        if !is_sound(memory) {
+            return Err(refusal(1, 0));
         }
-        let mut ledger = kept(record, events, ends);
+        let mut ledger = kept(memory);
         let said = call(&mut ledger);
-        write(&ledger, record.traces as usize, events, ends);
-        (Record { traces: ledger.traces.len() as u32, ..record }, said)
+        write(&ledger, memory);
+        said
     }
 }
 
@@ -63,23 +64,23 @@ impl Calls for Model {
     }
 
     /// Refusal 6 names the first undeclared step here.
-    fn add(&mut self, record: Record, events: &mut [u8], ends: &mut [u32], trace: &[u8]) -> (Record, Result<(), Refusal>) {
-        let (after, mut said) = Model::grow(record, events, ends, |ledger| ledger.add(trace));
+    fn add(&mut self, memory: &mut Memory, trace: &[u8]) -> Result<(), Refusal> {
+        let mut said = Model::grow(memory, |ledger| ledger.add(trace));
         if let Err(Refusal { number: 6, detail }) = &mut said {
-            *detail = trace.iter().position(|&x| x as u32 >= record.activities).unwrap() as u64 + 1;
+            *detail = trace.iter().position(|&x| x as u32 >= memory.record.activities).unwrap() as u64 + 1;
         }
-        (after, said)
+        said
     }
 
-    fn read(&mut self, record: Record, events: &mut [u8], ends: &mut [u32], log: &[u8]) -> (Record, Result<u32, Refusal>) {
-        Model::grow(record, events, ends, |ledger| ledger.read(log))
+    fn read(&mut self, memory: &mut Memory, log: &[u8]) -> Result<u32, Refusal> {
+        Model::grow(memory, |ledger| ledger.read(log))
     }
 
-    fn find(&mut self, record: Record, events: &[u8], ends: &[u32], threshold: u32, list: &mut [u16]) -> Result<FindAnswer, Refusal> {
-        if !is_sound(record, events, ends) {
+    fn find(&mut self, memory: &Memory, threshold: u32, list: &mut [u16]) -> Result<FindAnswer, Refusal> {
+        if !is_sound(memory) {
             return Err(refusal(1, 0));
         }
-        let found = kept(record, events, ends).find(threshold, list.len())?;
+        let found = kept(memory).find(threshold, list.len())?;
         lay_out(&found, list);
         Ok(FindAnswer { listed: found.list.len() as u32, replayed: found.replayed, traces: found.traces })
     }
@@ -88,6 +89,6 @@ impl Calls for Model {
 /// The list as it lies in the lent slice.
 pub fn lay_out(found: &Found, list: &mut [u16]) {
     for (k, rule) in found.list.iter().enumerate() {
-        list[4 * k..4 * k + 4].copy_from_slice(rule);
+        list[NUMBERS * k..NUMBERS * (k + 1)].copy_from_slice(rule);
     }
 }
