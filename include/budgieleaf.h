@@ -22,17 +22,34 @@
  * 0 where the call is accepted, else the number of the refusal; answer[0] is then its detail. The other numbers of
  * `answer` are 0 unless said below. A refused call leaves the store, both buffers and the list as they were.
  *
- *    1  the store is not sound (see `budgieleaf_is_sound`)                                detail 0
- *    2  N is not 1 to 32                                                                  (open has no detail)
- *    3  the threshold is not 1 to 1000                                                    detail 0
- *    4  a line of the log is malformed                                                    detail: the line, from 1
- *    5  a trace number is lower than the one on the line before                           detail: the line, from 1
- *    6  an activity is not below N                                     detail: the line; for add, the place of one, from 1
- *    7  a trace is longer than 4096                                    detail: the line, from 1; for add, 0
- *    8  4095 traces are kept already, or as many as `ends` has room for  detail: the line, from 1; for add, 0
- *    9  `events` has no room for the new activities                    detail: the line, from 1; for add, 0
- *   10  the list is shorter than four numbers for each constraint to be listed   detail: how many constraints there are
- *   11  no trace is kept                                                                  detail 0
+ * REFUSALS, in README's words: a run is a trace, a step an activity, a rule a constraint; the step buffer is `events`,
+ * the ends slice `ends`.
+ *       what                                                       detail         who causes it
+ *    1  store not sound                                            0              the program that lends memory
+ *    2  N not 1 to 32                                              0              the operator
+ *    3  threshold not 1 to 1000                                    0              the operator
+ *    4  malformed line                                             line           the writer of the log
+ *    5  run number lower than the line before                      line           the writer of the log
+ *    6  step not below N                                           line or place  the writer of the log or run
+ *    7  run longer than 4096                                       line           the writer of the log or run
+ *    8  run count already 4095 or the ends slice's length          line           the program that lends memory
+ *    9  steps don't fit in the step buffer behind the last end     line           the program that lends memory
+ *   10  list shorter than four numbers for each rule to be listed  rules needed   the program that lends memory
+ *   11  no run kept                                                0              the operator
+ *   12  more than 65536 bytes of input                             0              the program that lends memory
+ * What is sound, `budgieleaf_is_sound` says. A line is the log's, from 1. Add has no lines: its detail is 0 in 7, 8
+ * and 9, and in 6 the place, from 1, of a step that is not below N, any one of them. Open has no answer, and so no
+ * detail. Only findrules gives 12.
+ *
+ * TEMPLATES, by number with the field's names; README says when each holds.
+ *    1 Existence(1)      9 Choice                   17 Precedence
+ *    2 Existence(2)     10 Exclusive Choice         18 Alternate Precedence
+ *    3 Existence(3)     11 Co-Existence             19 Chain Precedence
+ *    4 Absence(1)       12 Not Co-Existence         20 Succession
+ *    5 Absence(2)       13 Responded Existence      21 Alternate Succession
+ *    6 Absence(3)       14 Response                 22 Chain Succession
+ *    7 Init             15 Alternate Response       23 Not Succession
+ *    8 End              16 Chain Response           24 Not Chain Succession
  */
 #ifndef BUDGIELEAF_H
 #define BUDGIELEAF_H
