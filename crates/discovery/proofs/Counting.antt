@@ -1,4 +1,4 @@
--- A walk over the store's ends, trace by trace: how many of the kept traces pass a test. Support and replay are walks.
+-- How many of the kept traces pass a test, counted trace by trace along the store's ends: support and replay are such counts.
 -- Assumes nothing.
 use Prim.Native.Nat.{ℕ, suc, _+_, _-_, _≤_, _<_}
 use mathlib.Core.Path.{_≡_, refl, ap, _∙_}

@@ -8,7 +8,7 @@ use Rattle.base.specs.Checks.{gives}
 use Rattle.eventlog.specs.declared.Room.{Room}
 use Rattle.eventlog.specs.Store.{Memory, room}
 use Rattle.declare.specs.declared.constraints.Constraint.{Constraint}
-use Rattle.discovery.specs.Question.{trace-count, layout}
+use Rattle.discovery.specs.Question.{trace-count, numbers, layout}
 use Rattle.declare.specs.Constraints.{Exactly}
 use Rattle.discovery.specs.Claims.{AlikeQuestions}
 use Rattle.declare.proofs.constraints.Members.{exactly-one}
@@ -83,7 +83,7 @@ found-alike f g (values, given) (values′, given′) alike =
       said′ = b .said ∙ (λ i. gives (length (same-listed i) ∷ length (same-replayed i) ∷ sym (trace-count-alike q q′ alike) i ∷ []));
       lists =
           a .front ∙ layout-alike q q′ alike (r .listed)
-          ∙ sym (subst (λ (cs : List Constraint). take (4 * length cs) (g .shown .list) ≡ layout q′ cs) same-listed (b .front));
+          ∙ sym (subst (λ (cs : List Constraint). take (numbers * length cs) (g .shown .list) ≡ layout q′ cs) same-listed (b .front));
     }
 
 -- ## Every find of a history is one of those finds

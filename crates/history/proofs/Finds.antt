@@ -11,7 +11,7 @@ use Rattle.base.specs.Checks.{gives, reply}
 use Rattle.base.proofs.Checks.{given-new, given-values, when-passed-same}
 use Rattle.eventlog.specs.declared.Room.{Room}
 use Rattle.declare.specs.declared.constraints.Constraint.{Constraint}
-use Rattle.discovery.specs.Question.{Question, trace-count, layout, listed}
+use Rattle.discovery.specs.Question.{Question, trace-count, listed, numbers, layout}
 use Rattle.discovery.specs.Calls.{checks-for}
 use Rattle.discovery.proofs.Listing.{listed-exactly, replayed-exactly, replayed-at-most, layout-length}
 use Rattle.history.specs.Ledger.{find, Shown, Ledger, question, shows}
@@ -19,10 +19,10 @@ use Rattle.history.specs.Histories.{Right}
 
 -- the list laid out at the front of a slice that has room for it
 laid-out :
-    (q : Question) (cs : List Constraint) (list : List ℕ) → 4 * length cs ≤ length list →
-    sets list 0 (layout q cs) ≡ layout q cs ++ drop (4 * length cs) list
+    (q : Question) (cs : List Constraint) (list : List ℕ) → numbers * length cs ≤ length list →
+    sets list 0 (layout q cs) ≡ layout q cs ++ drop (numbers * length cs) list
 laid-out q cs list fits =
-    let same : 0 + length (layout q cs) ≡ 4 * length cs = omega (arith, layout-length q cs) in
+    let same : 0 + length (layout q cs) ≡ numbers * length cs = omega (arith, layout-length q cs) in
     sets-eq (layout q cs) list 0 (omega arith) ∙ ap (λ k. layout q cs ++ drop k list) same
 
 pub shows-right :
@@ -45,7 +45,7 @@ shows-right space l threshold list =
 -- an accepted find gives its numbers, and the list is at the front of its slice
 pub record Gives (q : Question) (shown : Shown) (cs ks : List Constraint) : Type 0 where
   pub said : shown .said ≡ gives (length cs ∷ length ks ∷ trace-count q ∷ [])
-  pub front : take (4 * length cs) (shown .list) ≡ layout q cs
+  pub front : take (numbers * length cs) (shown .list) ≡ layout q cs
 
 pub right-gives :
     (q : Question) (list : List ℕ) (shown : Shown) (right : Right q list shown) (values : List ℕ) → shown .said ≡ gives values →
@@ -55,8 +55,8 @@ right-gives q list shown right values given =
     let checks = checks-for (length cs) q list in
     let all = length cs ∷ length (right .replayed) ∷ trace-count q ∷ [] in
     let passed : reply checks all ≡ gives values = sym (right .said) ∙ given in
-    let new = right .written ∙ given-new checks all values passed (layout q cs ++ drop (4 * length cs) list) list in
+    let new = right .written ∙ given-new checks all values passed (layout q cs ++ drop (numbers * length cs) list) list in
     record {
       said = given ∙ ap gives (sym (given-values checks all values passed));
-      front = ap (take (4 * length cs)) new ∙ take-at (layout q cs) (drop (4 * length cs) list) (4 * length cs) (layout-length q cs);
+      front = ap (take (numbers * length cs)) new ∙ take-at (layout q cs) (drop (numbers * length cs) list) (numbers * length cs) (layout-length q cs);
     }

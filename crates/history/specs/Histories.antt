@@ -16,7 +16,7 @@ use Rattle.declare.specs.declared.constraints.Constraint.{Constraint}
 use Rattle.eventlog.specs.Store.{Memory, all-below, sound, kept, room}
 use Rattle.eventlog.specs.Calls.{Opens, open-said, Undeclared, Adds, add-said}
 use Rattle.columns.specs.Calls.{Reads, read-said}
-use Rattle.discovery.specs.Question.{Question, trace-count, is-listed, survives, layout}
+use Rattle.discovery.specs.Question.{Question, trace-count, is-listed, survives, numbers, layout}
 use Rattle.declare.specs.Constraints.{Exactly}
 use Rattle.discovery.specs.Claims.{AlikeQuestions}
 use Rattle.discovery.specs.Calls.{checks-for, Finds, find-said}
@@ -118,7 +118,7 @@ pub record Right (q : Question) (list : List ℕ) (shown : Shown) : Type 0 where
   pub said :
       shown .said ≡ reply (checks-for (length listed) q list) (length listed ∷ length replayed ∷ trace-count q ∷ [])
   pub written :
-      shown .list ≡ when-passed (checks-for (length listed) q list) (layout q listed ++ drop (4 * length listed) list) list
+      shown .list ≡ when-passed (checks-for (length listed) q list) (layout q listed ++ drop (numbers * length listed) list) list
 
 -- the find was accepted
 abbrev pub Accepted : FindIn → Type 0
@@ -131,7 +131,7 @@ pub record EqualFinds (f g : FindIn) : Type 0 where
   pub all : ℕ
   pub said : f .shown .said ≡ gives (listed ∷ replayed ∷ all ∷ [])
   pub said′ : g .shown .said ≡ gives (listed ∷ replayed ∷ all ∷ [])
-  pub lists : take (4 * listed) (f .shown .list) ≡ take (4 * listed) (g .shown .list)
+  pub lists : take (numbers * listed) (f .shown .list) ≡ take (numbers * listed) (g .shown .list)
 
 -- A find of a history, behind the calls `before`: it is from the same start, and what it shows stands at its place among all that was shown.
 pub record FindAt (m : Memory) (before : List Call) (threshold : ℕ) (list : List ℕ) (ss : List Shown) : Type 0 where

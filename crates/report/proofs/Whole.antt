@@ -20,6 +20,7 @@ use Rattle.declare.specs.declared.constraints.Constraint.{Constraint}
 use Rattle.discovery.specs.Question.{Question, fulfilments, listed, replayed}
 use Rattle.discovery.specs.Calls.{find-checks}
 use Rattle.discovery.proofs.Listing.{listed-exactly, replayed-at-most, listed-within-replayed, few-numbers}
+use Rattle.report.specs.Print.{number-width, detail-width}
 use Rattle.report.specs.Report.{most-input, lent-events, lent-ends, lent-list, log-of, activities-set, threshold-set}
 use Rattle.report.specs.Report.{log-question, question-set, room-lent, checks-to-read, checks-of-report, Lent, empty-store}
 use Rattle.report.specs.Whole.{WholeLines, Whole}
@@ -28,15 +29,15 @@ use Rattle.report.proofs.Reading.{Buffers, filled}
 -- ## Refusals
 
 abbrev WholeRefusal : ℕ → ℕ → Type 0
-WholeRefusal number detail = (number < 10 ^ 2) × (detail < 10 ^ 6)
+WholeRefusal number detail = (number < 10 ^ number-width) × (detail < 10 ^ detail-width)
 
 -- a log's details are its lines
 whole-lines :
-    (r : Room) (before : Before) (place : ℕ) (ls : List Line) → place + length ls ≤ 10 ^ 6 →
+    (r : Room) (before : Before) (place : ℕ) (ls : List Line) → place + length ls ≤ 10 ^ detail-width →
     Each WholeRefusal (log-checks-from r before place ls)
 whole-lines r before place [] h = tt
 whole-lines r before place (line ∷ rest) h =
-    let p : place < 10 ^ 6 = omega arith in (
+    let p : place < 10 ^ detail-width = omega arith in (
       (omega arith, p),
       λ a. (
         (omega arith, p),

@@ -16,18 +16,21 @@ pub record Puts (out : List ℕ) (at size : ℕ) (text : List ℕ) (next : ℕ) 
   pub follows : next ≡ at + size
   pub stores : out′ ≡ sets out at text
 
--- the line of the constraint that stands in a list after so many others
-abbrev pub line-at : ℕ → List ℕ → List ℕ
-line-at k list =
-    constraint-line
-    (getD list (numbers * k) 0) (getD list (numbers * k + 1) 0) (getD list (numbers * k + 2) 0) (getD list (numbers * k + 3) 0)
+-- the constraint that stands in a list after so many others, and its line
+abbrev pub counted-at : ℕ → List ℕ → Counted
+counted-at k list =
+    record {
+      template = getD list (numbers * k) 0;
+      a = getD list (numbers * k + 1) 0;
+      b = getD list (numbers * k + 2) 0;
+      count = getD list (numbers * k + 3) 0;
+    }
 
--- that constraint
-pub record CountedAt (k : ℕ) (list : List ℕ) (c : Counted) : Type 0 where
-  pub template : c .template ≡ getD list (numbers * k) 0
-  pub a : c .a ≡ getD list (numbers * k + 1) 0
-  pub b : c .b ≡ getD list (numbers * k + 2) 0
-  pub count : c .count ≡ getD list (numbers * k + 3) 0
+abbrev pub line-of : Counted → List ℕ
+line-of c = constraint-line (c .template) (c .a) (c .b) (c .count)
+
+abbrev pub line-at : ℕ → List ℕ → List ℕ
+line-at k list = line-of (counted-at k list)
 
 -- the lines of a list's first constraints
 abbrev pub lines-of : ℕ → List ℕ → List ℕ

@@ -14,9 +14,9 @@ ghost use Rattle.eventlog.specs.Store.{declarable};
 ghost use Rattle.fields.specs.Field.{line-feed, spell};
 ghost use Rattle.columns.specs.Log.{log-checks};
 ghost use Rattle.discovery.specs.Question.{numbers};
-ghost use Rattle.report.specs.Print.{activity-width, refusal-line-size, first-line-size, constraint-line-size, refusal-line, first-line, second-field, constraint-line};
+ghost use Rattle.report.specs.Print.{activity-width, refusal-line-size, first-line-size, constraint-line-size, refusal-line, first-line, second-field};
 ghost use Rattle.report.specs.Report.{log-question, room-lent, lent-arrays, Reports};
-ghost use Rattle.report.specs.Puts.{Puts, CountedAt, lines-of};
+ghost use Rattle.report.specs.Puts.{Puts, counted-at as counted-of, line-of, lines-of};
 ghost use Rattle.report.specs.Stages.{settings-of, Decides, Decided, number-listed, answer-text};
 
 pub const MOST_INPUT: usize = 65536;
@@ -56,12 +56,6 @@ pub const OUT: usize = FIRST_LINE + CONSTRAINT_LINE * LENT_CONSTRAINTS;
 // Document 01's number of the refusal that comes from here.
 pub const TOO_MUCH_INPUT: u8 = 12;
 
-fn wide(x: u16) -> usize
-    ensures { λ r. ⌜ r ≡ x ⌝ }
-{
-    x as usize
-}
-
 // A number in the columns from a place on; the place after them.
 fn put_number(out: &mut [u8], at: usize, width: usize, n: usize) -> usize
     requires { ⌜ at + width ≤ length (now out) ⌝ }
@@ -82,23 +76,23 @@ fn put_line_feed(out: &mut [u8], at: usize) -> usize
 
 // A constraint of the list, with its count.
 struct Counted {
-    template: usize,
-    a: usize,
-    b: usize,
-    count: usize,
+    template: u16,
+    a: u16,
+    b: u16,
+    count: u16,
 }
 
 // The one that stands in the list after k others.
 fn counted_at(list: &[u16], k: usize) -> Counted
     requires { ⌜ numbers * k + numbers ≤ length (now list) ⌝ }
-    ensures { λ r. ⌜ CountedAt k (now (list .entry)) r ⌝ }
+    ensures { λ r. ⌜ r ≡ counted-of k (now (list .entry)) ⌝ }
 {
     let first = discovery::NUMBERS * k;
     Counted {
-        template: wide(list[first]),
-        a: wide(list[first + 1]),
-        b: wide(list[first + 2]),
-        count: wide(list[first + 3]),
+        template: list[first],
+        a: list[first + 1],
+        b: list[first + 2],
+        count: list[first + 3],
     }
 }
 
@@ -112,17 +106,17 @@ fn put_second(out: &mut [u8], at: usize, c: Counted) -> usize
         fields::put_blanks(&mut out[at..end]);
         return end;
     }
-    put_number(out, at, ACTIVITY_WIDTH, c.b)
+    put_number(out, at, ACTIVITY_WIDTH, c.b as usize)
 }
 
 fn put_constraint(out: &mut [u8], at: usize, c: Counted) -> usize
     requires { ⌜ at + constraint-line-size ≤ length (now out) ⌝ }
-    ensures { λ r. ⌜ Puts (now (out .entry)) at constraint-line-size (constraint-line (c .template) (c .a) (c .b) (c .count)) r (now (out .exit)) ⌝ }
+    ensures { λ r. ⌜ Puts (now (out .entry)) at constraint-line-size (line-of c) r (now (out .exit)) ⌝ }
 {
-    let after_template = put_number(out, at, TEMPLATE_WIDTH, c.template);
-    let after_a = put_number(out, after_template, ACTIVITY_WIDTH, c.a);
+    let after_template = put_number(out, at, TEMPLATE_WIDTH, c.template as usize);
+    let after_a = put_number(out, after_template, ACTIVITY_WIDTH, c.a as usize);
     let after_b = put_second(out, after_a, c);
-    let after_count = put_number(out, after_b, COUNT_WIDTH, c.count);
+    let after_count = put_number(out, after_b, COUNT_WIDTH, c.count as usize);
     put_line_feed(out, after_count)
 }
 

@@ -38,8 +38,7 @@ loop-again : tie.Need-loop-again Inv-loop μ-loop
 loop-again c =
     let a = c .before .before .before .before .before .before .loop in
     let list = now (c .before .before .before .before .before .before .before .before .before .args .list) in
-    let counted = c .before .before .before .counted-at .ensures in
-    let line = rw (counted .template, counted .a, counted .b, counted .count) at (c .before .before .put-constraint .ensures) in
+    let line = rw (c .before .before .before .counted-at .ensures) at (c .before .before .put-constraint .ensures) in
     let size : constraint-line-size * (a .k + 1) ≡ constraint-line-size * a .k + constraint-line-size = omega arith in (
       omega arith,
       omega (arith, a .inv .1, c .before .before .put-constraint .kept .0),

@@ -43,6 +43,9 @@ returns c =
           (c .before .before .put-blanks .ensures);
     })
 
+cast-put-number : tie.Need-cast-put-number
+cast-put-number c = search needs
+
 put-number-requires : tie.Need-put-number-requires
 put-number-requires c κs = search needs
 
@@ -50,7 +53,7 @@ same-length-2 : tie.Need-same-length-2
 same-length-2 c = search needs
 
 returns-2 : tie.Need-returns-2
-returns-2 c = rw (lt-leb _ 8 (c .before .before .before .before .if1 .left)) (c .before .before .put-number .ensures)
+returns-2 c = rw (lt-leb _ 8 (c .before .before .before .before .before .if1 .left)) (c .before .before .put-number .ensures)
 
 pub put-second-spec : {M : Type 1} → statement M
 put-second-spec =
@@ -63,6 +66,7 @@ put-second-spec =
     put-blanks-requires
     same-length
     returns
+    cast-put-number
     put-number-requires
     same-length-2
     returns-2)

@@ -1,4 +1,4 @@
--- `discovery::classes::support` meets its contract: the loop is a walk over the ends that counts the traces of the class.
+-- `discovery::classes::support` meets its contract: the loop counts the traces of the class, along the ends.
 -- Assumes nothing.
 use Prim.Native.Nat.{_-_}
 use mathlib.Core.Path.{sym}

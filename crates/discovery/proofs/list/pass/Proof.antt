@@ -19,8 +19,8 @@ use Rattle.discovery.proofs.list.pass.Tie as tie
 
 abbrev Inv-loop : tie.InvT-loop
 Inv-loop store events ends threshold list₀ n all found₀ c₀ place₀ list found c place =
-    (place ≤ all) × (all ≡ length (constraints (store .activities))) × (place < all → c ≡ at (store .activities) place)
-    × Passes (asked (memory store events ends) threshold) (take place (constraints (store .activities))) found₀ list₀ found list
+    Passes (asked (memory store events ends) threshold) (take place (constraints (store .activities))) found₀ list₀ found list
+    × (place < all → c ≡ at (store .activities) place) × (all ≡ length (constraints (store .activities))) × (place ≤ all)
 
 abbrev μ-loop : tie.MeasureT-loop
 μ-loop store events ends threshold list₀ n all found₀ c₀ place₀ list found c place = all - place
@@ -37,17 +37,17 @@ first-constraint-requires c κs = search needs
 loop-holds : tie.Need-loop-holds Inv-loop μ-loop
 loop-holds c =
     let s = c .before .before .before .before .before .before in (
-      omega arith,
-      c .before .constraint-count .ensures,
-      λ some. c .first-constraint .ensures ∙ sym (starts (s .args .store .activities) (sound-facts _ (s .pre) .some-activity)),
       passes-none _ _ _,
+      λ some. c .first-constraint .ensures ∙ sym (starts (s .args .store .activities) (sound-facts _ (s .pre) .some-activity)),
+      c .before .constraint-count .ensures,
+      omega arith,
     )
 
 consider-requires : tie.Need-consider-requires Inv-loop μ-loop
 consider-requires c κs =
     let s = c .before .before .before .before .before .before .before .before .before in
     let l = c .before .before .loop in
-    (s .pre, passes-few _ (s .args .store .activities) (l .place) _ _ _ (omega (arith, l .inv .0, l .inv .1)) (l .inv .3))
+    (s .pre, passes-few _ (s .args .store .activities) (l .place) _ _ _ (omega (arith, l .inv .3, l .inv .2)) (l .inv .0))
 
 next-constraint-requires : tie.Need-next-constraint-requires Inv-loop μ-loop
 next-constraint-requires c κs = search needs
@@ -62,21 +62,22 @@ loop-again : tie.Need-loop-again Inv-loop μ-loop
 loop-again c =
     let l = c .before .before .before .before .before .before .loop in
     let n = c .before .before .before .before .before .before .before .before .before .before .before .before .before .args .store .activities in
-    let more : l .place < length (constraints n) = omega (arith, l .inv .1, c .before .before .before .before .before .loop-test .taken) in (
+    let more : l .place < length (constraints n) = omega (arith, l .inv .2, c .before .before .before .before .before .loop-test .taken) in
+    let here = l .inv .1 (omega arith) in (
+      passes-next _ (constraints n) (l .place) _ _ _ _ _ _ _ _ more here (l .inv .0) (c .before .before .before .consider .ensures),
+      λ further. c .next-constraint .ensures ∙ ap (next n) here ∙ sym (visits n (l .place) (omega (arith, further, l .inv .2))),
+      l .inv .2,
       omega arith,
-      l .inv .1,
-      λ further.
-          c .next-constraint .ensures ∙ ap (next n) (l .inv .2 (omega arith)) ∙ sym (visits n (l .place) (omega (arith, further, l .inv .1))),
-      passes-next _ (constraints n) (l .place) _ _ _ _ _ _ _ _ more (l .inv .2 (omega arith)) (l .inv .3) (c .before .before .before .consider .ensures),
     )
 
 same-length : tie.Need-same-length Inv-loop μ-loop
-same-length c = passes-length _ _ _ _ _ _ (c .before .loop .inv .3)
+same-length c = passes-length _ _ _ _ _ _ (c .before .loop .inv .0)
 
 returns : tie.Need-returns Inv-loop μ-loop
 returns c =
     let l = c .before .loop in
-    rw (take-all (l .place) (constraints (c .before .before .before .before .before .before .before .before .args .store .activities)) (omega (arith, l .inv .1, c .loop-test .left))) at (l .inv .3)
+    let n = c .before .before .before .before .before .before .before .before .args .store .activities in
+    rw (take-all (l .place) (constraints n) (omega (arith, l .inv .2, c .loop-test .left))) at (l .inv .0)
 
 pub pass-spec : {M : Type 1} → statement M
 pass-spec =

@@ -2,6 +2,7 @@
 -- Assumes nothing.
 use Prim.Native.Nat.{_*_}
 use borrow.Author.Needs.{needs}
+use Rattle.discovery.specs.Question.{numbers}
 use Rattle.discovery.proofs.list.Passing.{four-stores}
 use Rattle.discovery.proofs.list.write.Statement.{statement}
 use Rattle.discovery.proofs.list.write.Tie as tie
@@ -49,7 +50,7 @@ returns c =
     let second = third .before .before .before .before .before in
     let first = second .before .before .before .before .before in
     let args = first .before .before .before .before .args in
-    four-stores (args .list .now) _ _ _ _ (4 * args .listed) (args .c .template) (args .c .a) (args .c .b) (args .count)
+    four-stores (args .list .now) _ _ _ _ (numbers * args .listed) (args .c .template) (args .c .a) (args .c .b) (args .count)
     (first .put .ensures) (second .put2 .ensures) (third .put3 .ensures) (fourth .put4 .ensures)
 
 pub write-spec : {M : Type 1} → statement M

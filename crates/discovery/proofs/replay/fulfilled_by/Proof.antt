@@ -1,4 +1,4 @@
--- `discovery::replay::fulfilled_by` meets its contract: the loop is a walk over the ends that counts the fulfilled traces.
+-- `discovery::replay::fulfilled_by` meets its contract: the loop counts the fulfilled traces, along the ends.
 -- Assumes nothing.
 use Prim.Native.Nat.{_-_}
 use mathlib.Core.Path.{sym, ap, _∙_}
