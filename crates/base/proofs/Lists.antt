@@ -3,16 +3,18 @@
 use Prim.Native.Nat.{ℕ, zero, suc, _+_, _-_, _≤_, _<_}
 use native.Mathlib.Omega.{arith}
 use native.Mathlib.Decide.{ℕ-discrete}
-use native.Mathlib.Nat.{zero-add, suc-add}
+use native.Mathlib.Nat.{zero-add, add-zero, add-suc, suc-add, not-suc-le-zero, le-of-suc-le-suc}
 use mathlib.Core.Path.{_≡_, refl, sym, ap, ap₂, subst, _∙_}
 use mathlib.Core.Logic.{_⊎_, inl, inr, ⊎-elim}
 use mathlib.Core.Bool.{Bool, true, false, not, true≢false, false≢true}
-use mathlib.Core.List.{List, [], _∷_, _++_, append-assoc, List·Memᴰ, List·Memᴰ·head, List·Memᴰ·tail, List·Memᴰ·not-nil, List·Memᴰ·cases-cons, List·Memᴰ·append-cases, Memᴰ·append-left, Memᴰ·append-right, Sublistᴰ, Sublistᴰ·slnil, Sublistᴰ·cons, Sublistᴰ·cons-cons, List·Permᴰ, List·Permᴰ·nil, List·Permᴰ·cons, List·Permᴰ·swap, List·Permᴰ·trans}
-use lib.ListN.{length, take, drop, length-append}
+use mathlib.Core.List.{List, [], _∷_, _++_, map, append-assoc, List·Memᴰ, List·Memᴰ·head, List·Memᴰ·tail, List·Memᴰ·not-nil, List·Memᴰ·cases-cons, List·Memᴰ·append-cases, Memᴰ·append-left, Memᴰ·append-right, Sublistᴰ, Sublistᴰ·slnil, Sublistᴰ·cons, Sublistᴰ·cons-cons, List·Permᴰ, List·Permᴰ·nil, List·Permᴰ·cons, List·Permᴰ·swap, List·Permᴰ·trans}
+use borrow.Author.Tests.{eqb-true, eqb-false}
+use lib.Dec.{eqb}
+use lib.ListN.{length, take, drop, getD, length-append}
 use lib.Seq.{slice, take-nil}
 use Rattle.base.specs.Logic.{if_then_else_}
 use Rattle.base.specs.Lists.{filter, count, all, range, flat-map, equal-lists}
-use Rattle.base.proofs.Bools.{and-left, and-right, and-both}
+use Rattle.base.proofs.Bools.{and-left, and-right, and-both, either}
 
 -- ## Parts
 
@@ -48,6 +50,17 @@ pub all-append {ℓ} : {A : Type ℓ} (p : A → Bool) (xs ys : List A) → all 
 all-append p [] ys h k = k
 all-append p (x ∷ xs) ys h k =
     and-both (p x) (all p (xs ++ ys)) (and-left (p x) (all p xs) h) (all-append p xs ys (and-right (p x) (all p xs) h) k)
+
+pub all-take {ℓ} : {A : Type ℓ} (p : A → Bool) (n : ℕ) (xs : List A) → all p xs ≡ true → all p (take n xs) ≡ true
+all-take p zero xs h = refl
+all-take p (suc n) [] h = refl
+all-take p (suc n) (x ∷ xs) h =
+    and-both (p x) (all p (take n xs)) (and-left (p x) (all p xs) h) (all-take p n xs (and-right (p x) (all p xs) h))
+
+pub all-drop {ℓ} : {A : Type ℓ} (p : A → Bool) (n : ℕ) (xs : List A) → all p xs ≡ true → all p (drop n xs) ≡ true
+all-drop p zero xs h = h
+all-drop p (suc n) [] h = refl
+all-drop p (suc n) (x ∷ xs) h = all-drop p n xs (and-right (p x) (all p xs) h)
 
 -- ## Filter
 
@@ -113,6 +126,14 @@ count-cons p x xs = go (p x)
 pub count-weaker {ℓ} : {A : Type ℓ} (p q : A → Bool) → ((x : A) → p x ≡ true → q x ≡ true) → (xs : List A) → count p xs ≤ count q xs
 count-weaker p q f [] = omega arith
 count-weaker p q f (x ∷ xs) = rw (count-cons p x xs, count-cons q x xs) (more-if (p x) (q x) _ _ (f x) (count-weaker p q f xs))
+
+-- among those that pass a test, two tests that agree on them are passed by as many
+pub count-same {ℓ} :
+    {A : Type ℓ} (q p p′ : A → Bool) (xs : List A) → all q xs ≡ true → ((x : A) → q x ≡ true → p x ≡ p′ x) → count p xs ≡ count p′ xs
+count-same q p p′ [] h same = refl
+count-same q p p′ (x ∷ xs) h same =
+    let here = same x (and-left (q x) (all q xs) h) in
+    rw (count-cons p x xs, count-cons p′ x xs, here, count-same q p p′ xs (and-right (q x) (all q xs) h) same)
 
 pub count-append : {A : Type 0} (p : A → Bool) (xs ys : List A) → count p (xs ++ ys) ≡ count p xs + count p ys
 count-append p xs ys = ap length (filter-append p xs ys) ∙ length-append (filter p xs) (filter p ys)
@@ -193,3 +214,19 @@ member-range x first (suc more) low high = go (ℕ-discrete x first) (member-ran
 pub range-length : (first more : ℕ) → length (range first more) ≡ more
 range-length first zero = refl
 range-length first (suc more) = ap suc (range-length (suc first) more)
+
+-- what passes at each number of a range passes at any
+pub all-range : (p : ℕ → Bool) (first more n : ℕ) → all p (range first more) ≡ true → first ≤ n → n < first + more → p n ≡ true
+all-range p first zero n h low high = absurd (omega arith)
+all-range p first (suc more) n h low high =
+    let rest = all p (range (suc first) more) in
+    either (eqb first n) (λ e. subst (λ k. p k ≡ true) (eqb-true first n e) (and-left (p first) rest h))
+    (λ e. all-range p (suc first) more n (and-right (p first) rest h) (omega (arith, eqb-false first n e)) (omega arith))
+
+pub range-at : {A : Type 0} (f : ℕ → A) (more n : ℕ) (d : A) → n < more → getD (map f (range 0 more)) n d ≡ f n
+range-at f more n d h = rw zero-add at (go 0 more n h)
+  where
+    go : (first more n : ℕ) → n < more → getD (map f (range first more)) n d ≡ f (first + n)
+    go first zero n h = absurd (not-suc-le-zero h)
+    go first (suc more) zero h = rw add-zero
+    go first (suc more) (suc n) h = rw (add-suc, ← suc-add) (go (suc first) more n (le-of-suc-le-suc h))

@@ -10,7 +10,8 @@ use borrow.Author.Tests.{leb-true, le-leb}
 use lib.Dec.{leb}
 use lib.ListN.{length, take, drop, length-append, length-set}
 use lib.Seq.{slice, length-sets, sets-eq, length-take-le, take-take, take-at, drop-at, take-suc-set}
-use Rattle.base.proofs.Lists.{all-append}
+use Rattle.base.specs.Lists.{all}
+use Rattle.base.proofs.Lists.{all-append, all-take, all-drop}
 use Rattle.base.proofs.Bools.{and-left, and-right, and-both}
 use Rattle.eventlog.specs.Store.{most-activities, most-traces, longest-trace, declarable, Memory, memory, cut, kept, total}
 use Rattle.eventlog.specs.Store.{last-from, last-end, rising, all-below, sound, room, after-traces}
@@ -142,12 +143,31 @@ cut-same from (end ∷ ends) last events events′ h within same =
     sym (take-take end last events low) ∙ ap (take end) same ∙ take-take end last events′ low in
     cc (ap (drop from) first, cut-same end ends last events events′ (r .rest) within same)
 
+-- where what lies before the last end is declared, so are the traces
+cut-declared :
+    (n from : ℕ) (ends : List ℕ) (last : ℕ) (events : List ℕ) → rising from ends ≡ true → last-from from ends ≤ last →
+    all-below n (take last events) ≡ true → all (all-below n) (cut from ends events) ≡ true
+cut-declared n from [] last events h within declared = refl
+cut-declared n from (end ∷ ends) last events h within declared =
+    let r = rising-facts from end ends h in
+    let low : end ≤ last = omega (arith, rises-on end ends (r .rest)) in
+    and-both _ _
+    (all-drop _ from (take end events) (rw (take-take end last events low) at (all-take _ end (take last events) declared)))
+    (cut-declared n end ends last events (r .rest) within declared)
+
 -- ## What a sound memory keeps
 
 pub kept-length : (m : Memory) → sound m ≡ true → length (kept m) ≡ m .store .traces
 unfolding kept
 kept-length m h =
     cut-length 0 (kept-ends m) (m .events) ∙ length-take-le _ _ (sound-facts m h .has-ends)
+
+-- every kept trace has declared activities alone
+pub kept-declared : (m : Memory) → sound m ≡ true → all (all-below (m .store .activities)) (kept m) ≡ true
+unfolding kept last-end
+kept-declared m h =
+    let s = sound-facts m h in
+    cut-declared _ 0 (kept-ends m) (last-end m) (m .events) (s .rises) (omega arith) (s .declared)
 
 pub last-end-bound : (m : Memory) → sound m ≡ true → last-end m ≤ 4096 * m .store .traces
 unfolding last-end

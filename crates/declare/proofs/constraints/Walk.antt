@@ -207,6 +207,12 @@ unfolding constraints
 starts (suc n) h = refl
 starts zero h = absurd (omega arith)
 
+pub at-over : (n k : ℕ) → k < length (constraints n) → Over n (at n k)
+at-over n k more =
+    constraints-over n (at n k)
+    (subst (List·Memᴰ (at n k)) (sym (split-at (constraints n) k (first-of 1) more))
+    (Memᴰ·append-right (take k (constraints n)) (List·Memᴰ·head refl)))
+
 -- in a list in order, the least of those behind a place stands at the next
 next-there :
     (n : ℕ) (front rest : List Constraint) (c d e : Constraint) → constraints n ≡ front ++ (c ∷ (e ∷ rest)) →
