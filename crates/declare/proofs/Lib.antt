@@ -1,5 +1,7 @@
-pub mod Entries
-pub mod Following
-pub mod Places
 pub mod Ranges
+pub mod Places
 pub mod Summary
+pub mod Deciding
+pub mod Agreement
+pub mod Shifting
+pub mod Following

@@ -1,10 +1,10 @@
 -- Where a number stands to a range.
 -- Assumes nothing.
-use Prim.Native.Nat.{ℕ, _≤_, _<_}
+use Prim.Native.Nat.{ℕ, zero, suc, _≤_, _<_}
 use native.Mathlib.Omega.{arith}
-use mathlib.Core.Path.{_≡_, refl, sym, _∙_}
+use mathlib.Core.Path.{_≡_, refl}
 use mathlib.Core.Bool.{Bool, true, false, _&&_}
-use borrow.Author.Tests.{le-leb, lt-leb, leb-true, leb-false}
+use borrow.Author.Tests.{le-leb, lt-leb, leb-false}
 use lib.Dec.{leb}
 use Rattle.declare.specs.Meaning.{between, activated-when}
 use Rattle.base.proofs.Bools.{agree, by-cases}
@@ -19,22 +19,14 @@ pub above : (low n high : ℕ) → high < n → between low n high ≡ false
 unfolding agree
 above low n high h = rw (lt-leb n high h) (by-cases 1 (λ p. p && false) (λ p. false) refl (leb low n))
 
--- a number above 24 is never activated
-pub unnamed : (template : ℕ) (p q : Bool) → 24 < template → activated-when template p q ≡ false
-unnamed template p q h =
+-- a number outside 1 to 24 is never activated
+pub unnamed : (template : ℕ) (p q : Bool) → between 1 template 24 ≡ false → activated-when template p q ≡ false
+unnamed zero p q h = refl
+unnamed (suc n) p q h =
+    let high = leb-false (suc n) 24 (rw (le-leb 1 (suc n) (omega arith)) at h) in
     simp (
-      above 1 template 10 (omega arith),
-      above 13 template 16 (omega arith),
-      above 17 template 19 (omega arith),
-      above 11 template 24 h,
+      above 1 (suc n) 10 (omega arith),
+      above 13 (suc n) 16 (omega arith),
+      above 17 (suc n) 19 (omega arith),
+      above 11 (suc n) 24 high,
     )
-
-pub named : (template : ℕ) (p q : Bool) → activated-when template p q ≡ true → template < 32
-named template p q h = go (leb template 24) refl
-  where
-    go : (r : Bool) → leb template 24 ≡ r → template < 32
-    go true e = omega (arith, leb-true template 24 e)
-    go false e =
-        let z : false ≡ true = sym (unnamed template p q (leb-false template 24 e)) ∙ h in
-        let y : _≡_ {A = ℕ} 0 1 = cc in
-        omega arith

@@ -1,321 +1,161 @@
--- The summary of a trace decides every template. Each law is one induction over the trace, from any summary.
+-- The summary of a trace: before the first event, after each event, and the verdict that is read off it. It stands between the templates'
+-- meanings and their automata.
 -- Assumes nothing.
-use Prim.Native.Nat.{ℕ, suc, _+_}
-use native.Mathlib.Omega.{arith}
-use native.Mathlib.Nat.{add-zero, zero-add}
-use mathlib.Core.Path.{_≡_, refl, sym, ap, ap₂, _∙_}
-use mathlib.Core.Bool.{Bool, true, false, not, _&&_, _||_, or-assoc}
-use mathlib.Core.List.{List, [], _∷_, _++_, map, append-assoc, append-nil}
-use borrow.Author.Tests.{le-leb, lt-leb, leb-true, leb-false}
-use lib.Dec.{eqb, leb, leb·suc-suc, leb·zero}
-use lib.ListN.{getD, List·getD-map}
-use Rattle.base.specs.Logic.{_implies_, if_then_else_}
-use Rattle.declare.specs.Meaning.{Test, Meaning, each-on, some, occurs, times, starts-with, ends-with, precedence, alternate-precedence, chain-precedence, meanings, never, holds, activated, verdict}
-use Rattle.declare.specs.Summary.{Summary, no-event-yet, stepped, after, answers, answer, summed}
-use Rattle.base.proofs.Bools.{Expression, agree, by-cases}
-use Rattle.declare.proofs.Places.{occurs-on, occurs-snoc, ends-snoc, b-before-a, unanswered, b-before-a-cons, unanswered-snoc}
+use Prim.Native.Nat.{ℕ}
+use mathlib.Core.Bool.{Bool, true, false, not, _&&_, _||_}
+use mathlib.Core.List.{List, [], _∷_}
+use lib.Dec.{eqb}
+use lib.ListN.{getD}
+use Rattle.declare.specs.declared.Verdict.{Verdict}
+use Rattle.declare.specs.declared.Verdict.the-variants.{Fulfilled, NotActivated, Violated}
+use Rattle.base.specs.Logic.{if_then_else_}
+use Rattle.declare.specs.Meaning.{activated-when}
 
--- ## What has occurred
+-- What the events so far tell of the activities a and b.
+pub record Summary : Type 0 where
+  pub a : ℕ
+  pub b : ℕ
+  -- a has occurred: at least once, twice, three times
+  pub one : Bool
+  pub two : Bool
+  pub three : Bool
+  -- b has occurred
+  pub seen : Bool
+  -- there was an event; the first was a; the last was a
+  pub started : Bool
+  pub first : Bool
+  pub last : Bool
+  -- some a has no b after it
+  pub owed : Bool
+  -- an a came before the b that an earlier a was owed
+  pub doubled : Bool
+  -- right after an a came something else than b
+  pub missed : Bool
+  -- a b came with no a before it; with none owed it; with none just before it
+  pub early : Bool
+  pub bare : Bool
+  pub loose : Bool
+  -- a b came after an a; right after an a
+  pub later : Bool
+  pub next : Bool
 
--- One law for the two: a flag that takes up each occurrence of an activity.
-module _ (flag : Summary → Bool) (activity : Summary → ℕ) (takes-up : (s : Summary) (x : ℕ) → flag (stepped s x) ≡ flag s || eqb x (activity s))
-    (stays : (s : Summary) (x : ℕ) → activity (stepped s x) ≡ activity s) where
-  occurred : (s : Summary) (trace : List ℕ) → flag (after s trace) ≡ flag s || occurs (activity s) trace
-  unfolding agree
-  occurred s [] = by-cases 1 (λ p. p) (λ p. p || false) refl (flag s)
-  occurred s (x ∷ trace) =
-      rw (occurs-on (activity s) (x ∷ []) trace)
-      (occurred (stepped s x) trace
-      ∙ rw (takes-up s x, stays s x) (or-assoc (flag s) (eqb x (activity s)) (occurs (activity s) trace)))
+-- the summary with these flags, in their order
+abbrev pub summary : ℕ → ℕ → List Bool → Summary
+summary a b flags =
+    record {
+      a = a;
+      b = b;
+      one = getD flags 0 false;
+      two = getD flags 1 false;
+      three = getD flags 2 false;
+      seen = getD flags 3 false;
+      started = getD flags 4 false;
+      first = getD flags 5 false;
+      last = getD flags 6 false;
+      owed = getD flags 7 false;
+      doubled = getD flags 8 false;
+      missed = getD flags 9 false;
+      early = getD flags 10 false;
+      bare = getD flags 11 false;
+      loose = getD flags 12 false;
+      later = getD flags 13 false;
+      next = getD flags 14 false;
+    }
 
-one-after : (s : Summary) (trace : List ℕ) → after s trace .one ≡ s .one || occurs (s .a) trace
-one-after = occurred (λ s. s .one) (λ s. s .a) (λ s x. refl) (λ s x. refl)
+-- the flags of a summary, in their order
+abbrev pub flags-of : Summary → List Bool
+flags-of s =
+    s .one ∷ s .two ∷ s .three ∷ s .seen ∷ s .started ∷ s .first ∷ s .last ∷ s .owed ∷ s .doubled ∷ s .missed ∷ s .early ∷ s .bare ∷ s .loose ∷ s .later ∷ s .next ∷ []
 
-seen-after : (s : Summary) (trace : List ℕ) → after s trace .seen ≡ s .seen || occurs (s .b) trace
-seen-after = occurred (λ s. s .seen) (λ s. s .b) (λ s x. refl) (λ s x. refl)
+-- before the first event
+abbrev pub no-event-yet : ℕ → ℕ → Summary
+no-event-yet a b =
+    record {
+      a = a;
+      b = b;
+      one = false;
+      two = false;
+      three = false;
+      seen = false;
+      started = false;
+      first = false;
+      last = false;
+      owed = false;
+      doubled = false;
+      missed = false;
+      early = false;
+      bare = false;
+      loose = false;
+      later = false;
+      next = false;
+    }
 
--- ## Each a, and what comes after it
+-- after one more event, which is a or not, and b or not
+abbrev pub with-event : Summary → Bool → Bool → Summary
+with-event s is-a is-b =
+    record {
+      a = s .a;
+      b = s .b;
+      one = s .one || is-a;
+      two = s .two || (is-a && s .one);
+      three = s .three || (is-a && s .two);
+      seen = s .seen || is-b;
+      started = true;
+      first = s .first || (is-a && not (s .started));
+      last = is-a;
+      owed = is-a || (s .owed && not is-b);
+      doubled = s .doubled || (is-a && (s .owed && not is-b));
+      missed = s .missed || (s .last && not is-b);
+      early = s .early || (is-b && not (s .one));
+      bare = s .bare || (is-b && not (s .owed));
+      loose = s .loose || (is-b && not (s .last));
+      later = s .later || (is-b && s .one);
+      next = s .next || (is-b && s .last);
+    }
 
--- a test of each place at which a stands
-abbrev at-each : ℕ → (List ℕ → Bool) → Test
-at-each a p before x after = eqb x a implies p after
+abbrev pub stepped : Summary → ℕ → Summary
+stepped s event = with-event s (eqb event (s .a)) (eqb event (s .b))
 
-owed-after : (s : Summary) (before trace : List ℕ)
-    → not (after s trace .owed) ≡ (s .owed implies occurs (s .b) trace) && each-on before trace (at-each (s .a) (occurs (s .b)))
-unfolding agree
-owed-after s before [] = by-cases 1 (λ p. not p) (λ p. (p implies false) && true) refl (s .owed)
-owed-after s before (x ∷ trace) =
-    rw (occurs-on (s .b) (x ∷ []) trace)
-    (owed-after (stepped s x) (before ++ (x ∷ [])) trace
-    ∙ by-cases 5 (λ o is-a is-b h e. ((is-a || (o && not is-b)) implies h) && e)
-    (λ o is-a is-b h e. (o implies (is-b || h)) && ((is-a implies h) && e))
-    refl
-    (s .owed)
-    (eqb x (s .a))
-    (eqb x (s .b))
-    (occurs (s .b) trace)
-    (each-on (before ++ (x ∷ [])) trace (at-each (s .a) (occurs (s .b)))))
+-- after a trace
+abbrev pub after : Summary → List ℕ → Summary
+after s [] = s
+after s (event ∷ trace) = after (stepped s event) trace
 
-alternate-after : (s : Summary) (before trace : List ℕ)
-    → not (after s trace .owed) && not (after s trace .doubled)
-    ≡ not (s .doubled)
-    && ((s .owed implies some trace (b-before-a (s .a) (s .b)))
-    && each-on before trace (at-each (s .a) (λ after. some after (b-before-a (s .a) (s .b)))))
-unfolding agree
-alternate-after s before [] =
-    by-cases 2 (λ o d. not o && not d) (λ o d. not d && ((o implies false) && true)) refl (s .owed) (s .doubled)
-alternate-after s before (x ∷ trace) =
-    rw (b-before-a-cons (s .a) (s .b) x trace)
-    (alternate-after (stepped s x) (before ++ (x ∷ [])) trace
-    ∙ by-cases 6 (λ d o is-a is-b h e. not (d || (is-a && (o && not is-b))) && (((is-a || (o && not is-b)) implies h) && e))
-    (λ d o is-a is-b h e. not d && ((o implies (is-b || (not is-a && h))) && ((is-a implies h) && e)))
-    refl
-    (s .doubled)
-    (s .owed)
-    (eqb x (s .a))
-    (eqb x (s .b))
-    (some trace (b-before-a (s .a) (s .b)))
-    (each-on (before ++ (x ∷ [])) trace (at-each (s .a) (λ after. some after (b-before-a (s .a) (s .b))))))
+-- whether each template holds, by its number, from 0 on
+abbrev pub answers : Summary → List Bool
+answers s =
+    false ∷
+    s .one ∷
+    s .two ∷
+    s .three ∷
+    not (s .one) ∷
+    not (s .two) ∷
+    not (s .three) ∷
+    s .first ∷
+    s .last ∷
+    (s .one || s .seen) ∷
+    ((s .one || s .seen) && not (s .one && s .seen)) ∷
+    ((s .one && s .seen) || not (s .one || s .seen)) ∷
+    not (s .one && s .seen) ∷
+    (not (s .one) || s .seen) ∷
+    not (s .owed) ∷
+    (not (s .owed) && not (s .doubled)) ∷
+    (not (s .missed) && not (s .last)) ∷
+    not (s .early) ∷
+    not (s .bare) ∷
+    not (s .loose) ∷
+    (not (s .owed) && not (s .early)) ∷
+    ((not (s .owed) && not (s .doubled)) && not (s .bare)) ∷
+    ((not (s .missed) && not (s .last)) && not (s .loose)) ∷
+    not (s .later) ∷
+    not (s .next) ∷
+    []
 
-chain-after : (s : Summary) (before trace : List ℕ)
-    → not (after s trace .missed) && not (after s trace .last)
-    ≡ not (s .missed) && ((s .last implies starts-with (s .b) trace) && each-on before trace (at-each (s .a) (starts-with (s .b))))
-unfolding agree
-chain-after s before [] =
-    by-cases 2 (λ m l. not m && not l) (λ m l. not m && ((l implies false) && true)) refl (s .missed) (s .last)
-chain-after s before (x ∷ trace) =
-    chain-after (stepped s x) (before ++ (x ∷ [])) trace
-    ∙ by-cases 6 (λ m l is-a is-b h e. not (m || (l && not is-b)) && ((is-a implies h) && e))
-    (λ m l is-a is-b h e. not m && ((l implies is-b) && ((is-a implies h) && e)))
-    refl
-    (s .missed)
-    (s .last)
-    (eqb x (s .a))
-    (eqb x (s .b))
-    (starts-with (s .b) trace)
-    (each-on (before ++ (x ∷ [])) trace (at-each (s .a) (starts-with (s .b))))
+unfoldable pub answer : Summary → ℕ → Bool
+answer s template = getD (answers s) template false
 
-later-after : (s : Summary) (before trace : List ℕ)
-    → not (after s trace .later)
-    ≡ not (s .later)
-    && ((s .one implies not (occurs (s .b) trace)) && each-on before trace (at-each (s .a) (λ after. not (occurs (s .b) after))))
-unfolding agree
-later-after s before [] = by-cases 2 (λ l o. not l) (λ l o. not l && ((o implies true) && true)) refl (s .later) (s .one)
-later-after s before (x ∷ trace) =
-    rw (occurs-on (s .b) (x ∷ []) trace)
-    (later-after (stepped s x) (before ++ (x ∷ [])) trace
-    ∙ by-cases 6 (λ l o is-a is-b h e. not (l || (is-b && o)) && (((o || is-a) implies not h) && e))
-    (λ l o is-a is-b h e. not l && ((o implies not (is-b || h)) && ((is-a implies not h) && e)))
-    refl
-    (s .later)
-    (s .one)
-    (eqb x (s .a))
-    (eqb x (s .b))
-    (occurs (s .b) trace)
-    (each-on (before ++ (x ∷ [])) trace (at-each (s .a) (λ after. not (occurs (s .b) after)))))
-
-next-after : (s : Summary) (before trace : List ℕ)
-    → not (after s trace .next)
-    ≡ not (s .next)
-    && ((s .last implies not (starts-with (s .b) trace)) && each-on before trace (at-each (s .a) (λ after. not (starts-with (s .b) after))))
-unfolding agree
-next-after s before [] = by-cases 2 (λ n l. not n) (λ n l. not n && ((l implies true) && true)) refl (s .next) (s .last)
-next-after s before (x ∷ trace) =
-    next-after (stepped s x) (before ++ (x ∷ [])) trace
-    ∙ by-cases 6 (λ n l is-a is-b h e. not (n || (is-b && l)) && ((is-a implies not h) && e))
-    (λ n l is-a is-b h e. not n && ((l implies not is-b) && ((is-a implies not h) && e)))
-    refl
-    (s .next)
-    (s .last)
-    (eqb x (s .a))
-    (eqb x (s .b))
-    (starts-with (s .b) trace)
-    (each-on (before ++ (x ∷ [])) trace (at-each (s .a) (λ after. not (starts-with (s .b) after))))
-
--- ## Each b, and what came before it
-
--- One law for the three: `ready` keeps up with a test of what came before, and each b that finds it false is noted in `bad`.
-module _ (a b : ℕ) (test : List ℕ → Bool) (ready bad : Summary → Bool)
-    (catches : (s : Summary) (x : ℕ) → s .b ≡ b → bad (stepped s x) ≡ bad s || (eqb x b && not (ready s)))
-    (keeps : (s : Summary) (x : ℕ) (before : List ℕ) → s .a ≡ a → s .b ≡ b → ready s ≡ test before
-    → ready (stepped s x) ≡ test (before ++ (x ∷ []))) where
-  bad-after : (s : Summary) (before trace : List ℕ) → s .a ≡ a → s .b ≡ b → ready s ≡ test before
-      → not (bad (after s trace)) ≡ not (bad s) && each-on before trace (λ before x after. eqb x b implies test before)
-  unfolding agree
-  bad-after s before [] d e h = by-cases 1 (λ p. not p) (λ p. not p && true) refl (bad s)
-  bad-after s before (x ∷ trace) d e h =
-      bad-after (stepped s x) (before ++ (x ∷ [])) trace d e (keeps s x before d e h)
-      ∙ rw (catches s x e, h)
-      (by-cases 4 (λ p is-b t r. not (p || (is-b && not t)) && r) (λ p is-b t r. not p && ((is-b implies t) && r)) refl
-      (bad s)
-      (eqb x b)
-      (test before)
-      (each-on (before ++ (x ∷ [])) trace (λ before x after. eqb x b implies test before)))
-
-early-after : (a b : ℕ) (trace : List ℕ) → not (after (no-event-yet a b) trace .early) ≡ precedence a b trace
-unfolding agree
-early-after a b trace =
-    bad-after a b (occurs a) (λ s. s .one) (λ s. s .early) (λ s x e. ap (λ (n : ℕ). s .early || (eqb x n && not (s .one))) e)
-    (λ s x before d e h.
-    ap₂ (λ (p : Bool) (n : ℕ). p || eqb x n) h d
-    ∙ by-cases 2 (λ p q. p || q) (λ p q. p || q) refl (occurs a before) (eqb x a)
-    ∙ sym (occurs-snoc a x before))
-    (no-event-yet a b) [] trace refl refl refl
-
-bare-after : (a b : ℕ) (trace : List ℕ) → not (after (no-event-yet a b) trace .bare) ≡ alternate-precedence a b trace
-unfolding agree
-bare-after a b trace =
-    bad-after a b (λ before. some before (unanswered a b)) (λ s. s .owed) (λ s. s .bare)
-    (λ s x e. ap (λ (n : ℕ). s .bare || (eqb x n && not (s .owed))) e)
-    (λ s x before d e h.
-    ap (λ (p : Bool). eqb x (s .a) || (p && not (eqb x (s .b)))) h
-    ∙ ap₂ (λ (m n : ℕ). eqb x m || (some before (unanswered a b) && not (eqb x n))) d e
-    ∙ by-cases 3 (λ p q r. p || (q && not r)) (λ p q r. p || (q && not r)) refl (eqb x a) (some before (unanswered a b)) (eqb x b)
-    ∙ sym (unanswered-snoc a b x [] before))
-    (no-event-yet a b) [] trace refl refl refl
-
-loose-after : (a b : ℕ) (trace : List ℕ) → not (after (no-event-yet a b) trace .loose) ≡ chain-precedence a b trace
-loose-after a b trace =
-    bad-after a b (ends-with a) (λ s. s .last) (λ s. s .loose) (λ s x e. ap (λ (n : ℕ). s .loose || (eqb x n && not (s .last))) e)
-    (λ s x before d e h. ap (λ (n : ℕ). eqb x n) d ∙ sym (ends-snoc a x before))
-    (no-event-yet a b) [] trace refl refl refl
-
--- ## How often, first and last
-
--- the flags are those of a count
-abbrev Counts : Summary → ℕ → Type 0
-Counts s n = (s .one ≡ leb 1 n) × (s .two ≡ leb 2 n) × (s .three ≡ leb 3 n)
-
-weaker : (p q : Bool) → (p ≡ true → q ≡ true) → p || q ≡ q
-weaker true q h = sym (h refl)
-weaker false q h = refl
-
--- n, and one more where it is so
-abbrev more : Bool → ℕ → ℕ
-more is-so n = if is-so then suc n else n
-
-bound-more : (k n : ℕ) (is-so : Bool) → leb (suc k) n || (is-so && leb k n) ≡ leb (suc k) (more is-so n)
-unfolding agree
-bound-more k n false = by-cases 1 (λ p. p || false) (λ p. p) refl (leb (suc k) n)
-bound-more k n true =
-    weaker (leb (suc k) n) (leb k n) (λ h. le-leb k n (omega (arith, leb-true (suc k) n h))) ∙ sym (leb·suc-suc k n)
-
-more-add : (is-so : Bool) (n m : ℕ) → more is-so n + m ≡ n + more is-so m
-more-add true n m = omega arith
-more-add false n m = refl
-
-counts-step : (s : Summary) (n x : ℕ) → Counts s n → Counts (stepped s x) (more (eqb x (s .a)) n)
-unfolding agree
-counts-step s n x h =
-    let is-a = eqb x (s .a) in (
-      ap (λ (p : Bool). p || is-a) (h .0)
-          ∙ by-cases 2 (λ p q. p || q) (λ p q. p || (q && true)) refl (leb 1 n) is-a
-          ∙ ap (λ (p : Bool). leb 1 n || (is-a && p)) (sym (leb·zero n))
-          ∙ bound-more 0 n is-a,
-      ap₂ (λ (p q : Bool). p || (is-a && q)) (h .1) (h .0) ∙ bound-more 1 n is-a,
-      ap₂ (λ (p q : Bool). p || (is-a && q)) (h .2) (h .1) ∙ bound-more 2 n is-a,
-    )
-
-counts-after : (s : Summary) (n : ℕ) (trace : List ℕ) → Counts s n → Counts (after s trace) (n + times (s .a) trace)
-counts-after s n [] h = rw add-zero h
-counts-after s n (x ∷ trace) h =
-    rw (more-add (eqb x (s .a)) n (times (s .a) trace)) at
-    (counts-after (stepped s x) (more (eqb x (s .a)) n) trace (counts-step s n x h))
-
-first-after : (s : Summary) (trace : List ℕ) → after s trace .first ≡ s .first || (not (s .started) && starts-with (s .a) trace)
-unfolding agree
-first-after s [] = by-cases 2 (λ f t. f) (λ f t. f || (not t && false)) refl (s .first) (s .started)
-first-after s (x ∷ trace) =
-    first-after (stepped s x) trace
-    ∙ by-cases 4 (λ f t is-a h. (f || (is-a && not t)) || (false && h)) (λ f t is-a h. f || (not t && is-a)) refl
-    (s .first)
-    (s .started)
-    (eqb x (s .a))
-    (starts-with (s .a) trace)
-
-last-after : (s : Summary) (before trace : List ℕ) → s .last ≡ ends-with (s .a) before → after s trace .last ≡ ends-with (s .a) (before ++ trace)
-last-after s before [] h = rw append-nil h
-last-after s before (x ∷ trace) h =
-    last-after (stepped s x) (before ++ (x ∷ [])) trace (sym (ends-snoc (s .a) x before)) ∙ rw append-assoc
-
--- ## The verdict
-
-not-more : (n k : ℕ) → not (leb (suc k) n) ≡ leb n k
-not-more n k = go (leb (suc k) n) refl
-  where
-    go : (p : Bool) → leb (suc k) n ≡ p → not p ≡ leb n k
-    go true h = sym (lt-leb n k (leb-true (suc k) n h))
-    go false h = sym (le-leb n k (omega (arith, leb-false (suc k) n h)))
-
-infixr 20 _then_
-_then_ : {x y : Bool} {xs ys : List Bool} → x ≡ y → xs ≡ ys → x ∷ xs ≡ y ∷ ys
-p then q = ap₂ _∷_ p q
-
-module _ (a b : ℕ) (trace : List ℕ) where
-  end : Summary
-  end = after (no-event-yet a b) trace
-
-  counts : Counts end (times a trace)
-  unfolding end
-  counts = rw zero-add at (counts-after (no-event-yet a b) 0 trace (refl, refl, refl))
-
-  at-most : (p : Bool) (k : ℕ) → p ≡ leb (suc k) (times a trace) → not p ≡ leb (times a trace) k
-  at-most p k h = ap not h ∙ not-more (times a trace) k
-
-  -- an expression in whether a and b have occurred
-  occurring : (f g : Expression 2) → agree 2 f g ≡ true → f (end .one) (end .seen) ≡ g (occurs a trace) (occurs b trace)
-  unfolding end
-  occurring f g h = ap₂ f (one-after (no-event-yet a b) trace) (seen-after (no-event-yet a b) trace) ∙ by-cases 2 f g h (occurs a trace) (occurs b trace)
-
-  both : {p q p′ q′ : Bool} → p ≡ p′ → q ≡ q′ → p && q ≡ p′ && q′
-  unfolding agree
-  both {p′ = p′} {q′ = q′} h k = ap₂ _&&_ h k ∙ by-cases 2 (λ p q. p && q) (λ p q. p && q) refl p′ q′
-
-  -- the table of answers is the list of the templates' meanings
-  answers-right : answers end ≡ map (λ (m : Meaning). m a b trace) (never ∷ meanings)
-  unfolding meanings agree end
-  answers-right =
-      let s = no-event-yet a b in
-      refl
-      then counts .0
-      then counts .1
-      then counts .2
-      then at-most (end .one) 0 (counts .0)
-      then at-most (end .two) 1 (counts .1)
-      then at-most (end .three) 2 (counts .2)
-      then first-after s trace
-      then last-after s [] trace refl
-      then occurring (λ p q. p || q) (λ p q. p || q) refl
-      then occurring (λ p q. (p || q) && not (p && q)) (λ p q. if p then not q else q) refl
-      then occurring (λ p q. (p && q) || not (p || q)) (λ p q. if p then q else not q) refl
-      then occurring (λ p q. not (p && q)) (λ p q. not (p && q)) refl
-      then occurring (λ p q. not p || q) (λ p q. p implies q) refl
-      then owed-after s [] trace
-      then alternate-after s [] trace
-      then chain-after s [] trace
-      then early-after a b trace
-      then bare-after a b trace
-      then loose-after a b trace
-      then both (owed-after s [] trace) (early-after a b trace)
-      then both (alternate-after s [] trace) (bare-after a b trace)
-      then both (chain-after s [] trace) (loose-after a b trace)
-      then later-after s [] trace
-      then next-after s [] trace
-      then refl
-
-  answer-right : (template : ℕ) → answer end template ≡ holds template a b trace
-  unfolding answer holds meanings
-  answer-right template =
-      ap (λ (l : List Bool). getD l template false) answers-right
-      ∙ List·getD-map (λ (m : Meaning). m a b trace) (never ∷ meanings) template never
-
--- after any trace, for every template number and every a and b, the verdict read off the summary is the verdict of the definitions
-pub decides : (template a b : ℕ) (trace : List ℕ) → summed (after (no-event-yet a b) trace) template ≡ verdict template a b trace
-unfolding summed verdict activated end
-decides template a b trace =
-    simp (one-after (no-event-yet a b) trace, seen-after (no-event-yet a b) trace, answer-right a b trace template)
-
--- one event more
-pub after-snoc : (s : Summary) (trace : List ℕ) (x : ℕ) → after s (trace ++ (x ∷ [])) ≡ stepped (after s trace) x
-after-snoc s [] x = refl
-after-snoc s (y ∷ trace) x = after-snoc (stepped s y) trace x
+-- the verdict that a summary gives
+unfoldable pub summed : Summary → ℕ → Verdict
+unfolding answer
+summed s template =
+    if activated-when template (s .one) (s .seen) then (if answer s template then Fulfilled else Violated) else NotActivated

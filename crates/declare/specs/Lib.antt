@@ -1,5 +1,4 @@
 pub mod Meaning
 pub mod Constraints
-pub mod Summary
-pub mod States
+pub mod Automata
 pub mod Walk

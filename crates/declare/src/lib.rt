@@ -7,11 +7,12 @@ pub use constraints::Constraint;
 pub use constraints::constraint_count;
 pub use constraints::first_constraint;
 pub use constraints::next_constraint;
+ghost use Prim.Native.Nat.{_+_, _*_, _<_, _≤_};
 ghost use mathlib.Core.Path.{_≡_};
-ghost use Prim.Native.Nat.{_<_};
-ghost use lib.ListN.{getD};
-ghost use Rattle.declare.specs.Meaning.{verdict, activated-when};
-ghost use Rattle.declare.specs.States.{bit as bit-of, start, advance, advance-all, marks-verdict as verdict-by, NextTable, MarksTable};
+ghost use mathlib.Core.List.{map, _∷_, []};
+ghost use lib.ListN.{length};
+ghost use Rattle.declare.specs.Meaning.{verdict};
+ghost use Rattle.declare.specs.Automata.{next-states, state-verdicts, packed as packed-from, moves-word, verdicts-word as verdicts-of, automaton, no-automaton as none, moves-of, start, advance, advance-all, verdict-by, activity, beside};
 
 // What a trace is for a constraint (document 01: a run for a rule): fulfilled, not activated (01: idle), or violated (01: broken).
 pub enum Verdict {
@@ -20,113 +21,163 @@ pub enum Verdict {
     Violated,
 }
 
-// The activities a and b of a constraint, and the number of a state: the summary of the events so far, which decides all 24 templates.
-pub struct Replayer {
-    a: u8,
-    b: u8,
-    state: u8,
+// A template's automaton: for each letter (a, b, any other) the next states of its eight states, and their verdicts, a byte each.
+// A next state is written as eight times its number, which is how far a number is to be shifted for it.
+pub struct Automaton {
+    pub a: u64,
+    pub b: u64,
+    pub other: u64,
+    pub verdicts: u64,
 }
 
-// The table by which a replayer goes from state to state. Whoever replays many traces makes it once.
-pub fn next_states() -> [u8; 1024]
-    ensures { λ r. ⌜ NextTable r ⌝ }
+// Eight times the number of a state.
+pub struct Replayer {
+    state: u64,
+}
+
+// The table of next states, in bytes: 24 templates, 8 states and 3 letters (a, b, any other), in that order.
+pub fn next_states() -> [u8; 576]
+    ensures { λ r. ⌜ r ≡ next-states ⌝ }
 {
     tables::NEXT
 }
 
-// The table of what each state tells of every template.
-pub fn state_marks() -> [u32; 256]
-    ensures { λ r. ⌜ MarksTable r ⌝ }
+// The table of the states' verdicts, in bytes: 24 templates and 8 states.
+pub fn state_verdicts() -> [u8; 192]
+    ensures { λ r. ⌜ r ≡ state-verdicts ⌝ }
 {
-    tables::MARKS
+    tables::VERDICTS
 }
 
-fn bit(word: u32, place: u8) -> bool
-    requires { ⌜ place < 32 ⌝ }
-    ensures { λ r. ⌜ r ≡ bit-of word place ⌝ }
+// Eight entries of a table as one number, a byte each. The remainders keep it in 64 bits, whatever the entries are; of the tables they
+// take nothing away (proofs/Shifting).
+fn packed(table: &[u8], from: usize, apart: usize, times: u64) -> u64
+    requires { ⌜ (from + apart * 7 < length (now table)) × (times ≤ 8) ⌝ }
+    ensures { λ r. ⌜ r ≡ packed-from (now (table .entry)) from apart times 8 ⌝ }
 {
-    (word >> place) % 2 == 1
+    let mut word: u64 = 0;
+    let mut k: usize = 8;
+    while 0 < k {
+        k -= 1;
+        let entry = table[from + apart * k] as u64;
+        word = word % 72057594037927936 * 256 + times * entry % 256;
+    }
+    word
 }
 
-fn activated(template: u8, a_occurs: bool, b_occurs: bool) -> bool
-    ensures { λ r. ⌜ r ≡ activated-when template «a_occurs» «b_occurs» ⌝ }
+// A template takes 24 bytes of the table, a state three. The table is made on the stack here, and gone when the numbers are there, before
+// the other one is made.
+fn moves_words(row: usize) -> [u64; 3]
+    requires { ⌜ row < 24 ⌝ }
+    ensures { λ r. ⌜ r ≡ moves-word (row + 1) 0 ∷ moves-word (row + 1) 1 ∷ moves-word (row + 1) 2 ∷ [] ⌝ }
 {
-    match template {
-        1..=10 => true,
-        13..=16 => a_occurs,
-        17..=19 => b_occurs,
-        11..=24 => a_occurs | b_occurs,
-        _ => false,
+    let next = next_states();
+    [
+        packed(&next, 24 * row, 3, 8),
+        packed(&next, 24 * row + 1, 3, 8),
+        packed(&next, 24 * row + 2, 3, 8),
+    ]
+}
+
+fn verdicts_word(row: usize) -> u64
+    requires { ⌜ row < 24 ⌝ }
+    ensures { λ r. ⌜ r ≡ verdicts-of (row + 1) ⌝ }
+{
+    let verdicts = state_verdicts();
+    packed(&verdicts, 8 * row, 1, 1)
+}
+
+// Of no template: it stays in state 0, not activated.
+pub fn no_automaton() -> Automaton
+    ensures { λ r. ⌜ r ≡ none ⌝ }
+{
+    Automaton {
+        a: 0,
+        b: 0,
+        other: 0,
+        verdicts: 1,
     }
 }
 
-// The verdict that a state's marks give.
-fn marks_verdict(marks: u32, template: u8) -> Verdict
-    ensures { λ r. ⌜ r ≡ verdict-by marks template ⌝ }
+// A template's automaton; of a number that is no template's, that of no template.
+pub fn automaton_of(template: u8) -> Automaton
+    ensures { λ r. ⌜ r ≡ automaton template ⌝ }
 {
-    if !activated(template, bit(marks, 1), bit(marks, 25)) {
-        return Verdict::NotActivated;
+    if template < 1 || 24 < template {
+        return no_automaton();
     }
-    if bit(marks, template) {
-        Verdict::Fulfilled
-    } else {
-        Verdict::Violated
+    let row = template as usize - 1;
+    let words = moves_words(row);
+    Automaton {
+        a: words[0],
+        b: words[1],
+        other: words[2],
+        verdicts: verdicts_word(row),
     }
+}
+
+// For a constraint on a and b, where each activity leads to.
+pub fn moves(automaton: Automaton, a: u8, b: u8) -> [u64; 32]
+    ensures { λ r. ⌜ r ≡ moves-of automaton a b ⌝ }
+{
+    let mut moves: [u64; 32] = [automaton.other; 32];
+    moves[(b % 32) as usize] = automaton.b;
+    moves[(a % 32) as usize] = automaton.a;
+    moves
 }
 
 impl Replayer {
     // Before the first event.
-    pub fn new(a: u8, b: u8) -> Replayer
-        ensures { λ r. ⌜ r ≡ start a b ⌝ }
+    pub fn new() -> Replayer
+        ensures { λ r. ⌜ r ≡ start ⌝ }
     {
-        Replayer { a, b, state: 0 }
+        Replayer { state: 0 }
     }
 
     // Consumes one event.
-    pub fn step(mut self, next: &[u8; 1024], event: u8) -> Replayer
-        ensures { λ r. ⌜ r ≡ advance (now (next .entry)) self event ⌝ }
+    pub fn step(mut self, moves: &[u64; 32], event: u8) -> Replayer
+        ensures { λ r. ⌜ r ≡ advance (now (moves .entry)) self event ⌝ }
     {
-        let is_a = event == self.a;
-        let is_b = event == self.b;
-        let at = self.state as usize * 4 + (is_a as usize + 2 * is_b as usize);
-        self.state = next[at];
+        let at = (event % 32) as usize;
+        self.state = (moves[at] >> (self.state % 64)) % 64;
         self
     }
 
-    // The verdict on the events so far.
-    pub fn verdict(self, marks: &[u32; 256], template: u8) -> Verdict
-        ensures { λ r. ⌜ r ≡ verdict-by (getD (now (marks .entry)) (self .state) 0) template ⌝ }
+    // The verdict on the events so far, by an automaton's verdicts.
+    pub fn verdict(self, verdicts: u64) -> Verdict
+        ensures { λ r. ⌜ r ≡ verdict-by verdicts self ⌝ }
     {
-        let at = self.state as usize;
-        marks_verdict(marks[at], template)
+        let byte = (verdicts >> (self.state % 64)) % 64;
+        if byte == 0 {
+            return Verdict::Fulfilled;
+        }
+        if byte == 1 {
+            Verdict::NotActivated
+        } else {
+            Verdict::Violated
+        }
     }
 }
 
-// The verdict on a whole trace by these tables. The trace is read once, front to back.
-pub fn replay_by(
-    next: &[u8; 1024],
-    marks: &[u32; 256],
-    template: u8,
-    a: u8,
-    b: u8,
-    trace: &[u8],
-) -> Verdict
-    ensures { λ r. ⌜ r ≡ verdict-by (getD (now (marks .entry)) (advance-all (now (next .entry)) (start a b) (now (trace .entry)) .state) 0) template ⌝ }
+// The verdict on a whole trace by an automaton's moves and verdicts. The trace is read once, front to back.
+pub fn replay_by(moves: &[u64; 32], verdicts: u64, trace: &[u8]) -> Verdict
+    ensures { λ r. ⌜ r ≡ verdict-by verdicts (advance-all (now (moves .entry)) start (now (trace .entry))) ⌝ }
 {
-    let mut state = Replayer::new(a, b);
+    let mut replayer = Replayer::new();
     let mut at = 0;
     while at < trace.len() {
-        state = state.step(next, trace[at]);
+        replayer = replayer.step(moves, trace[at]);
         at += 1;
     }
-    state.verdict(marks, template)
+    replayer.verdict(verdicts)
 }
 
-// The verdict on a whole trace. Any bytes and any numbers.
+// The verdict on a whole trace. Any bytes and any numbers: activities are taken by their remainder by 32, and where b is then a, it is as
+// if b never occurred. (In a constraint of templates 9 to 24 b is not a, and for 1 to 8 b does not matter.)
 pub fn replay(template: u8, a: u8, b: u8, trace: &[u8]) -> Verdict
-    ensures { λ r. ⌜ r ≡ verdict template a b (now (trace .entry)) ⌝ }
+    ensures { λ r. ⌜ r ≡ verdict template (activity a) (beside (activity a) (activity b)) (map activity (now (trace .entry))) ⌝ }
 {
-    let next = next_states();
-    let marks = state_marks();
-    replay_by(&next, &marks, template, a, b, trace)
+    let automaton = automaton_of(template);
+    let moves = moves(automaton, a, b);
+    replay_by(&moves, automaton.verdicts, trace)
 }

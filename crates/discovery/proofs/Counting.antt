@@ -1,7 +1,7 @@
 -- How many of the kept traces pass a test, counted trace by trace along the store's ends: support and replay are such counts.
 -- Assumes nothing.
 use Prim.Native.Nat.{ℕ, suc, _+_, _-_, _≤_, _<_}
-use mathlib.Core.Path.{_≡_, refl, ap, _∙_}
+use mathlib.Core.Path.{_≡_, refl, ap, ap₂, _∙_}
 use mathlib.Core.Bool.{Bool, true, false, _&&_}
 use mathlib.Core.List.{List, [], _∷_}
 use native.Mathlib.Numerals.{add-one}
@@ -11,11 +11,16 @@ use lib.Seq.{drop-cons, getD-take, length-take-le}
 use Rattle.base.specs.Logic.{if_then_else_}
 use Rattle.declare.specs.declared.Verdict.{Verdict}
 use Rattle.declare.specs.declared.Verdict.the-variants.{Fulfilled, NotActivated, Violated}
+use Rattle.declare.specs.declared.constraints.Constraint.{Constraint}
 use Rattle.declare.specs.Meaning.{activated, holds, fulfilled, verdict}
-use Rattle.eventlog.specs.Store.{Memory, cut, last-from, last-end, rising, sound}
-use Rattle.eventlog.proofs.Laws.{sound-facts, Rises, rising-facts, rises-on}
+use Rattle.declare.specs.Automata.{automaton, moves-of, start, advance-all, verdict-by}
+use Rattle.declare.specs.Constraints.{Over}
+use Rattle.declare.proofs.Following.{followed-constraint}
+use Rattle.eventlog.specs.Store.{Memory, cut, kept, last-from, last-end, rising, all-below, sound}
+use Rattle.eventlog.proofs.Laws.{sound-facts, kept-declared, Rises, rising-facts, rises-on}
 use Rattle.base.specs.Lists.{count}
-use Rattle.base.proofs.Lists.{part-slice}
+use Rattle.base.proofs.Lists.{part-slice, count-same}
+use Rattle.discovery.specs.Question.{fulfilments}
 
 -- a trace is fulfilled where the verdict says so
 abbrev pub is-fulfilled : Verdict → Bool
@@ -23,14 +28,32 @@ is-fulfilled Fulfilled = true
 is-fulfilled NotActivated = false
 is-fulfilled Violated = false
 
-pub verdict-fulfilled : (t a b : ℕ) (trace : List ℕ) → fulfilled t a b trace ≡ is-fulfilled (verdict t a b trace)
+verdict-fulfilled : (t a b : ℕ) (trace : List ℕ) → is-fulfilled (verdict t a b trace) ≡ fulfilled t a b trace
 unfolding fulfilled verdict
 verdict-fulfilled t a b trace = go (activated t a b trace) (holds t a b trace)
   where
-    go : (p q : Bool) → (p && q) ≡ is-fulfilled (if p then (if q then Fulfilled else Violated) else NotActivated)
+    go : (p q : Bool) → is-fulfilled (if p then (if q then Fulfilled else Violated) else NotActivated) ≡ p && q
     go true true = refl
     go true false = refl
     go false q = refl
+
+-- replay by moves and verdicts says that a trace is fulfilled
+abbrev pub replays-fulfilled : List ℕ → ℕ → List ℕ → Bool
+replays-fulfilled moves verdicts trace = is-fulfilled (verdict-by verdicts (advance-all moves start trace))
+
+-- by a constraint's own moves and verdicts, and over a sound memory's traces, that is so for as many as are fulfilled
+pub replay-counts :
+    (m : Memory) (c : Constraint) (moves : List ℕ) (verdicts : ℕ) → sound m ≡ true → Over (m .store .activities) c →
+    moves ≡ moves-of (automaton (c .template)) (c .a) (c .b) → verdicts ≡ automaton (c .template) .verdicts →
+    count (replays-fulfilled moves verdicts) (kept m) ≡ fulfilments (kept m) c
+unfolding fulfilments
+replay-counts m c moves verdicts h over e f =
+    let n = m .store .activities in
+    count-same (all-below n) (replays-fulfilled moves verdicts) (fulfilled (c .template) (c .a) (c .b)) (kept m) (kept-declared m h)
+    (λ trace declared.
+    ap₂ (λ moves verdicts. replays-fulfilled moves verdicts trace) e f
+    ∙ ap is-fulfilled (followed-constraint n c (sound-facts m h .few-activities) over trace declared)
+    ∙ verdict-fulfilled (c .template) (c .a) (c .b) trace)
 
 -- at the k-th of so many traces, which starts at `from`, with so many before it that pass
 pub record Counting (p : List ℕ → Bool) (events ends : List ℕ) (traces so-far from k : ℕ) : Type 0 where

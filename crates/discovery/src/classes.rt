@@ -16,7 +16,7 @@ pub enum Class {
 }
 
 // The template's number settles the class; a number that is no template's is in the last one.
-fn class_of(template: u8) -> Class
+pub(crate) fn class_of(template: u8) -> Class
     ensures { λ r. ⌜ r ≡ class-of template ⌝ }
 {
     match template {
@@ -25,6 +25,17 @@ fn class_of(template: u8) -> Class
         9..=10 | 12 | 23..=24 => Class::Either,
         _ => Class::Both,
     }
+}
+
+// The class of the next template, by the class of this one: mostly the two are the same template.
+pub(crate) fn class_next(class: Class, template: u8, next: u8) -> Class
+    requires { ⌜ class ≡ class-of template ⌝ }
+    ensures { λ r. ⌜ r ≡ class-of next ⌝ }
+{
+    if template == next {
+        return class;
+    }
+    class_of(next)
 }
 
 // The scan stops at the first a.
@@ -54,11 +65,11 @@ fn counts_for(class: Class, a: u8, b: u8, trace: &[u8]) -> bool
 }
 
 // How many kept traces count for the constraint's class.
-fn support(store: Store, events: &[u8], ends: &[u32], c: Constraint) -> u32
+fn support(store: Store, events: &[u8], ends: &[u32], class: Class, c: Constraint) -> u32
     requires { ⌜ sound (lent store events ends) ≡ true ⌝ }
+    requires { ⌜ class ≡ class-of (c .template) ⌝ }
     ensures { λ r. ⌜ r ≡ support-of (kept (lent store (events .entry) (ends .entry))) c ⌝ }
 {
-    let class = class_of(c.template);
     let kept = store.traces as usize;
     let mut count: u32 = 0;
     let mut start: usize = 0;
@@ -99,13 +110,16 @@ pub(crate) fn survives(
     events: &[u8],
     ends: &[u32],
     threshold: u32,
+    class: Class,
     c: Constraint,
 ) -> bool
     requires { ⌜ sound (lent store events ends) ≡ true ⌝ }
+    requires { ⌜ class ≡ class-of (c .template) ⌝ }
     ensures { λ r. ⌜ r ≡ survives-test (asked (lent store (events .entry) (ends .entry)) threshold) c ⌝ }
 {
-    if always(class_of(c.template)) {
+    if always(class) {
         return true;
     }
-    meets(threshold, store.traces, support(store, events, ends, c))
+    let counted = support(store, events, ends, class, c);
+    meets(threshold, store.traces, counted)
 }

@@ -3,7 +3,6 @@ mod classes;
 mod list;
 mod replay;
 
-ghost use Prim.Native.Nat.{_*_};
 ghost use mathlib.Core.Path.{_≡_};
 ghost use mathlib.Core.Bool.{true};
 ghost use lib.ListN.{length};

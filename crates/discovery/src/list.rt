@@ -5,13 +5,15 @@ ghost use mathlib.Core.Bool.{true};
 ghost use mathlib.Core.List.{[], _∷_};
 ghost use lib.ListN.{set};
 ghost use lib.Seq.{sets};
-ghost use Rattle.declare.specs.Constraints.{constraints};
+ghost use Rattle.declare.specs.Automata.{automaton as automaton-of};
+ghost use Rattle.declare.specs.Constraints.{constraints, Over};
 ghost use Rattle.eventlog.specs.Store.{lent, sound};
-ghost use Rattle.discovery.specs.Question.{asked, numbers};
+ghost use Rattle.discovery.specs.Question.{asked, numbers, survives as survives-test};
 ghost use Rattle.discovery.specs.Passes.{Passes, AtMostAll, none-yet};
 use crate::NUMBERS;
 use crate::classes;
 use crate::replay;
+use declare::Automaton;
 use declare::Constraint;
 use eventlog::Store;
 
@@ -41,8 +43,20 @@ fn write(list: &mut [u16], listed: u32, c: Constraint, count: u16)
     put(list, at + 3, count);
 }
 
-// Passes over one constraint: what pruning drops is not replayed, and what is replayed is written where its count meets the
-// threshold. So far no more than all constraints are listed and replayed, so that no number can wrap.
+// A template's automaton: the one at hand where it is that template's, or else a new one. Made for each constraint it would be most of the
+// work on small logs.
+fn at_hand(automaton: Automaton, known: u8, template: u8) -> Automaton
+    requires { ⌜ automaton ≡ automaton-of known ⌝ }
+    ensures { λ r. ⌜ r ≡ automaton-of template ⌝ }
+{
+    if known == template {
+        return automaton;
+    }
+    declare::automaton_of(template)
+}
+
+// Passes over one constraint that pruning keeps: it is replayed, and written where its count meets the threshold. So far no more than
+// all constraints are listed and replayed, so that no number can wrap.
 fn consider(
     store: Store,
     events: &[u8],
@@ -50,16 +64,17 @@ fn consider(
     threshold: u32,
     list: &mut [u16],
     tally: Tally,
+    automaton: Automaton,
     c: Constraint,
 ) -> Tally
     requires { ⌜ sound (lent store events ends) ≡ true ⌝ }
+    requires { ⌜ survives-test (asked (lent store events ends) threshold) c ≡ true ⌝ }
+    requires { ⌜ Over (store .activities) c ⌝ }
+    requires { ⌜ automaton ≡ automaton-of (c .template) ⌝ }
     requires { ⌜ (AtMostAll (store .activities) (tally .listed)) × (AtMostAll (store .activities) (tally .replayed)) ⌝ }
     ensures { λ r. ⌜ Passes (asked (lent store (events .entry) (ends .entry)) threshold) (c ∷ []) tally (now (list .entry)) r (now (list .exit)) ⌝ }
 {
-    if !classes::survives(store, events, ends, threshold, c) {
-        return tally;
-    }
-    let outcome = replay::replay(store, events, ends, threshold, c, tally.replayed);
+    let outcome = replay::replay(store, events, ends, threshold, automaton, c, tally.replayed);
     let fulfilled = outcome.fulfilled;
     let replayed = outcome.replayed;
     if !classes::meets(threshold, store.traces, fulfilled) {
@@ -75,7 +90,8 @@ fn consider(
     }
 }
 
-// Passes over all constraints in their order: counts those listed and replayed, and writes the list as far as the slice goes.
+// Passes over all constraints in their order: counts those listed and replayed, and writes the list as far as the slice goes. What
+// pruning drops is not replayed. The automaton made last stays at hand: the next constraint of its template takes it again.
 pub(crate) fn pass(
     store: Store,
     events: &[u8],
@@ -93,10 +109,19 @@ pub(crate) fn pass(
         replayed: 0,
     };
     let mut c = declare::first_constraint();
+    let mut class = classes::class_of(c.template);
+    let mut known: u8 = 0;
+    let mut automaton = declare::no_automaton();
     let mut place: u32 = 0;
     while place < all {
-        found = consider(store, events, ends, threshold, list, found, c);
-        c = declare::next_constraint(n, c);
+        if classes::survives(store, events, ends, threshold, class, c) {
+            automaton = at_hand(automaton, known, c.template);
+            known = c.template;
+            found = consider(store, events, ends, threshold, list, found, automaton, c);
+        }
+        let next = declare::next_constraint(n, c);
+        class = classes::class_next(class, c.template, next.template);
+        c = next;
         place += 1;
     }
     found

@@ -1,13 +1,13 @@
--- `declare::next_states` meets its contract: the table's rule is one test, computed over its 1024 entries.
+-- `declare::next_states` meets its contract: the bytes are those of the automata.
 -- Assumes nothing.
 use mathlib.Core.Path.{refl}
-use Rattle.declare.proofs.Entries.{next-right, next-table}
+use Rattle.declare.specs.Automata.{next-states}
 use Rattle.declare.proofs.next_states.Statement.{statement}
 use Rattle.declare.proofs.next_states.Tie as tie
 
 returns : tie.Need-returns
-unfolding next-right
-returns c = next-table _ refl refl
+unfolding next-states
+returns c = refl
 
 pub next-states-spec : {M : Type 1} → statement M
 next-states-spec = tie.close (tie.spec returns)

@@ -7,16 +7,16 @@ use borrow.Author.Needs.{needs}
 use lib.ListN.{length, take, getD}
 use lib.Seq.{take-suc, take-all}
 use Rattle.declare.specs.declared.Replayer.{Replayer}
-use Rattle.declare.specs.States.{start, advance, advance-all, marks-verdict}
+use Rattle.declare.specs.Automata.{start, advance, advance-all, verdict-by}
 use Rattle.declare.proofs.Following.{advance-snoc}
 use Rattle.declare.proofs.replay_by.Statement.{statement}
 use Rattle.declare.proofs.replay_by.Tie as tie
 
 abbrev Inv-loop : tie.InvT-loop
-Inv-loop next marks template a b trace state₀ at₀ state at = (at ≤ length trace) × (state ≡ advance-all next (start a b) (take at trace))
+Inv-loop moves verdicts trace replayer₀ at₀ replayer at = (at ≤ length trace) × (replayer ≡ advance-all moves start (take at trace))
 
 abbrev μ-loop : tie.MeasureT-loop
-μ-loop next marks template a b trace state₀ at₀ state at = length trace - at
+μ-loop moves verdicts trace replayer₀ at₀ replayer at = length trace - at
 
 new-requires : tie.Need-new-requires Inv-loop μ-loop
 new-requires c κs = search needs
@@ -43,8 +43,8 @@ loop-again c =
     let event = getD (x .trace .now) (l .at) 0 in (
       search needs,
       c .step .ensures
-          ∙ ap (λ (r : Replayer). advance (x .next .now) r event) (l .inv .1)
-          ∙ sym (advance-snoc (x .next .now) (start (x .a) (x .b)) (take (l .at) (x .trace .now)) event)
+          ∙ ap (λ (r : Replayer). advance (x .moves .now) r event) (l .inv .1)
+          ∙ sym (advance-snoc (x .moves .now) start (take (l .at) (x .trace .now)) event)
           ∙ rw (add-one, take-suc (x .trace .now) (l .at) 0 (search needs)),
     )
 
@@ -56,8 +56,8 @@ returns c =
     let x = c .before .before .before .before .before .args in
     let l = c .before .before .loop in
     c .verdict .ensures
-    ∙ ap (λ (r : Replayer). marks-verdict (getD (x .marks .now) (r .state) 0) (x .template))
-    (l .inv .1 ∙ ap (advance-all (x .next .now) (start (x .a) (x .b))) (take-all (l .at) (x .trace .now) (search needs)))
+    ∙ ap (verdict-by (x .verdicts))
+    (l .inv .1 ∙ ap (advance-all (x .moves .now) start) (take-all (l .at) (x .trace .now) (search needs)))
 
 pub replay-by-spec : {M : Type 1} → statement M
 replay-by-spec =

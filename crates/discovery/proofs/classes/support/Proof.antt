@@ -6,26 +6,23 @@ use mathlib.Core.Logic.{⊎-elim}
 use native.Mathlib.Omega.{arith}
 use borrow.Author.Needs.{needs}
 use Rattle.eventlog.specs.Store.{kept}
-use Rattle.discovery.specs.Question.{class-of, counts-for, support}
+use Rattle.discovery.specs.Question.{counts-for, support}
 use Rattle.discovery.proofs.Counting.{Counting, counting-start, counting-next, counting-done, starts-before, ends-within}
 use Rattle.discovery.proofs.classes.support.Statement.{statement}
 use Rattle.discovery.proofs.classes.support.Tie as tie
 
 abbrev Inv-loop : tie.InvT-loop
-Inv-loop events ends c class traces count₀ start₀ k₀ count start k =
+Inv-loop events ends class c traces count₀ start₀ k₀ count start k =
     Counting (counts-for class (c .a) (c .b)) events ends traces count start k
 
 abbrev μ-loop : tie.MeasureT-loop
-μ-loop events ends c class traces count₀ start₀ k₀ count start k = traces - k
-
-class-of-requires : tie.Need-class-of-requires Inv-loop μ-loop
-class-of-requires c κs = search needs
+μ-loop events ends class c traces count₀ start₀ k₀ count start k = traces - k
 
 cast-kept : tie.Need-cast-kept Inv-loop μ-loop
 cast-kept c = omega (arith, c .struct-known .given)
 
 loop-holds : tie.Need-loop-holds Inv-loop μ-loop
-loop-holds c = counting-start _ _ (c .before .before .before .before .pre)
+loop-holds c = counting-start _ _ (c .before .before .before .pre .0)
 
 mul-end : tie.Need-mul-end Inv-loop μ-loop
 mul-end c = omega arith
@@ -67,7 +64,7 @@ loop-again c =
 returns : tie.Need-returns Inv-loop μ-loop
 unfolding kept support
 returns c =
-    rw (← c .before .before .before .class-of .ensures) (counting-done _ _ _ _ _ _ _ (c .before .loop .inv) (c .loop-test .left))
+    rw (← c .before .before .before .before .before .pre .1) (counting-done _ _ _ _ _ _ _ (c .before .loop .inv) (c .loop-test .left))
 
 pub support-spec : {M : Type 1} → statement M
 support-spec =
@@ -75,7 +72,6 @@ support-spec =
     (tie.spec
     Inv-loop
     μ-loop
-    class-of-requires
     cast-kept
     loop-holds
     mul-end

@@ -6,15 +6,12 @@ use Rattle.discovery.proofs.list.Passing.{by-support}
 use Rattle.discovery.proofs.classes.survives.Statement.{statement}
 use Rattle.discovery.proofs.classes.survives.Tie as tie
 
-class-of-requires : tie.Need-class-of-requires
-class-of-requires c κs = search needs
-
 always-requires : tie.Need-always-requires
 always-requires c κs = search needs
 
 -- whether the constraint's class is kept always
-kept-always : (c : tie.After-always) → always (class-of (c .before .before .before .before .args .c .template)) ≡ c .always .result
-kept-always c = sym (c .always .ensures ∙ ap always (c .before .class-of .ensures))
+kept-always : (c : tie.After-always) → always (class-of (c .before .before .before .args .c .template)) ≡ c .always .result
+kept-always c = sym (c .always .ensures ∙ ap always (c .before .before .before .pre .1))
 
 returns : tie.Need-returns
 returns c = rw (kept-always (c .before) ∙ c .if1 .taken)
@@ -28,11 +25,11 @@ meets-requires c κs = search needs
 returns-2 : tie.Need-returns-2
 returns-2 c =
     let tested = c .before .before in
-    let start = tested .before .before .before .before .before in
+    let start = tested .before .before .before .before in
     c .meets .ensures
-    ∙ by-support _ (start .pre) _ _ (start .args .c) (kept-always (tested .before) ∙ tested .if1 .left) (c .before .support .ensures)
+    ∙ by-support _ (start .pre .0) _ _ (start .args .c) (kept-always (tested .before) ∙ tested .if1 .left) (c .before .support .ensures)
 
 pub survives-spec : {M : Type 1} → statement M
 survives-spec =
     tie.close
-    (tie.spec class-of-requires always-requires returns support-requires meets-requires returns-2)
+    (tie.spec always-requires returns support-requires meets-requires returns-2)

@@ -1,14 +1,13 @@
--- `discovery::list::consider` meets its contract: the first test says whether pruning keeps the constraint, the second whether it is listed.
+-- `discovery::list::consider` meets its contract: the constraint is replayed, and the test says whether it is listed.
 -- Assumes nothing.
 use mathlib.Core.Path.{_≡_, refl, sym, ap, _∙_}
-use mathlib.Core.Bool.{true}
 use native.Mathlib.Omega.{arith}
 use borrow.Author.Needs.{needs}
 use borrow.Author.Tests.{not-true, not-false}
 use Rattle.eventlog.specs.Store.{Memory, memory}
 use Rattle.eventlog.proofs.Laws.{sound-facts}
-use Rattle.discovery.specs.Question.{asked, meets, survives, is-listed}
-use Rattle.discovery.proofs.list.Passing.{meets-kept, fulfilments-few, passes-pruned, passes-unlisted, passes-listed}
+use Rattle.discovery.specs.Question.{asked, meets, is-listed}
+use Rattle.discovery.proofs.list.Passing.{meets-kept, fulfilments-few, passes-unlisted, passes-listed}
 use Rattle.discovery.proofs.Listing.{few-numbers}
 use Rattle.discovery.proofs.list.consider.Statement.{statement}
 use Rattle.discovery.proofs.list.consider.Tie as tie
@@ -16,70 +15,62 @@ use Rattle.discovery.proofs.list.consider.Tie as tie
 abbrev memory-at : tie.Start → Memory
 memory-at s = memory (s .args .store) (s .args .events .now) (s .args .ends .now)
 
-keeps : (c : tie.Else1) → let s = c .before .before .before .before .before in
-    survives (asked (memory-at s) (s .args .threshold)) (s .args .c) ≡ true
-keeps c = sym (c .before .survives .ensures) ∙ not-false _ (c .if1 .left)
-
-lists : (c : tie.After-meets) → let s = c .before .before .before .before .before .before .before in
+lists : (c : tie.After-meets) → let s = c .before .before .before .before .before in
     c .meets .result ≡ is-listed (asked (memory-at s) (s .args .threshold)) (s .args .c)
 lists c =
-    let s = c .before .before .before .before .before .before .before in
+    let s = c .before .before .before .before .before in
     c .meets .ensures ∙ ap (meets (s .args .threshold) (s .args .store .traces)) (c .before .replay .ensures .fulfilled)
     ∙ meets-kept (memory-at s) (s .pre .0) _ _
 
-survives-requires : tie.Need-survives-requires
-survives-requires c κs = search needs
-
-returns : tie.Need-returns
-returns c = passes-pruned _ _ _ _ (sym (c .before .survives .ensures) ∙ not-true _ (c .if1 .taken))
-
 replay-requires : tie.Need-replay-requires
-replay-requires c κs = (c .before .before .before .before .before .pre .0, (keeps c, c .before .before .before .before .before .pre .1 .1))
+replay-requires c κs =
+    let pre = c .before .before .before .pre in
+    (pre .0, (pre .1 .0, (pre .1 .1 .0, (pre .1 .1 .1 .0, pre .1 .1 .1 .1 .1))))
 
 meets-requires : tie.Need-meets-requires
 meets-requires c κs = search needs
 
-returns-2 : tie.Need-returns-2
-returns-2 c =
+returns : tie.Need-returns
+returns c =
     let r = c .before .before in
-    passes-unlisted _ _ _ _ _ refl (r .replay .ensures .counted) (keeps (r .before)) (sym (lists (c .before)) ∙ not-true _ (c .if2 .taken))
+    let s = r .before .before .before .before in
+    passes-unlisted _ _ _ _ _ refl (r .replay .ensures .counted) (s .pre .1 .0) (sym (lists (c .before)) ∙ not-true _ (c .if1 .taken))
 
 cast-write : tie.Need-cast-write
 cast-write c =
     let r = c .before .before .before in
-    let s = r .before .before .before .before .before .before in
+    let s = r .before .before .before .before in
     omega (arith, r .replay .ensures .fulfilled, fulfilments-few (memory-at s) (s .pre .0) (s .args .c))
 
 write-requires : tie.Need-write-requires
 write-requires c κs = search needs
 
-add-t17 : tie.Need-add-t17
-add-t17 c =
-    let s = c .before .before .before .before .before .before .before .before .before .before .before .before .before in
-    omega (arith, few-numbers (s .args .store .activities) (s .args .tally .listed) (sound-facts (memory-at s) (s .pre .0) .few-activities) (s .pre .1 .0))
+add-t18 : tie.Need-add-t18
+add-t18 c =
+    let s = c .before .before .before .before .before .before .before .before .before .before .before in
+    omega (arith, few-numbers (s .args .store .activities) (s .args .tally .listed) (sound-facts (memory-at s) (s .pre .0) .few-activities) (s .pre .1 .1 .1 .1 .0))
 
 same-length : tie.Need-same-length
 same-length c = search needs
 
-returns-3 : tie.Need-returns-3
-returns-3 c =
+returns-2 : tie.Need-returns-2
+returns-2 c =
     let w = c .before .before .before in
     let l = w .before .before in
     let r = l .before .before in
-    passes-listed _ _ _ _ _ _ refl (r .replay .ensures .counted) (keeps (r .before)) (sym (lists (l .before)) ∙ not-false _ (l .if2 .left))
+    let s = r .before .before .before .before in
+    passes-listed _ _ _ _ _ _ refl (r .replay .ensures .counted) (s .pre .1 .0) (sym (lists (l .before)) ∙ not-false _ (l .if1 .left))
     (rw (← r .replay .ensures .fulfilled) (w .write .ensures))
 
 pub consider-spec : {M : Type 1} → statement M
 consider-spec =
     tie.close
     (tie.spec
-    survives-requires
-    returns
     replay-requires
     meets-requires
-    returns-2
+    returns
     cast-write
     write-requires
-    add-t17
+    add-t18
     same-length
-    returns-3)
+    returns-2)

@@ -6,19 +6,16 @@ use mathlib.Core.Logic.{⊎-elim}
 use native.Mathlib.Omega.{arith}
 use borrow.Author.Needs.{needs}
 use Rattle.eventlog.specs.Store.{kept}
-use Rattle.declare.specs.Meaning.{fulfilled}
-use Rattle.declare.proofs.Following.{followed}
-use Rattle.discovery.specs.Question.{fulfilments}
-use Rattle.discovery.proofs.Counting.{Counting, counting-start, counting-next, counting-done, starts-before, ends-within, is-fulfilled, verdict-fulfilled}
+use Rattle.discovery.proofs.Counting.{Counting, counting-start, counting-next, counting-done, starts-before, ends-within, is-fulfilled, replays-fulfilled, replay-counts}
 use Rattle.discovery.proofs.replay.fulfilled_by.Statement.{statement}
 use Rattle.discovery.proofs.replay.fulfilled_by.Tie as tie
 
 abbrev Inv-loop : tie.InvT-loop
-Inv-loop next marks events ends threshold c traces fulfilled₀ from₀ k₀ count from k =
-    Counting (fulfilled (c .template) (c .a) (c .b)) events ends traces count from k
+Inv-loop moves verdicts events ends threshold traces fulfilled₀ from₀ k₀ count from k =
+    Counting (replays-fulfilled moves verdicts) events ends traces count from k
 
 abbrev μ-loop : tie.MeasureT-loop
-μ-loop next marks events ends threshold c traces fulfilled₀ from₀ k₀ count from k = traces - k
+μ-loop moves verdicts events ends threshold traces fulfilled₀ from₀ k₀ count from k = traces - k
 
 cast-traces : tie.Need-cast-traces Inv-loop μ-loop
 cast-traces c = omega (arith, c .struct-known .given)
@@ -67,18 +64,19 @@ loop-less c = omega arith
 
 loop-again : tie.Need-loop-again Inv-loop μ-loop
 loop-again c =
-    let pre = c .before .before .before .before .before .before .before .before .before .pre in
     let next =
     counting-next _ _ _ _ _ _ _ (c .before .before .before .before .before .loop .inv) (c .before .before .before .before .loop-test .taken)
-    (is-fulfilled (c .before .replay-by .result)) (verdict-fulfilled _ _ _ _ ∙ ap is-fulfilled (sym (c .before .replay-by .ensures ∙ followed _ _ (pre .0) (pre .1 .0) _ _ _ _))) in
+    (is-fulfilled (c .before .replay-by .result)) (ap is-fulfilled (sym (c .before .replay-by .ensures))) in
     ⊎-elim (λ w. rw (w .2) (rw (w .1 .given .1) at next))
     (⊎-elim (λ w. rw (w .2) (rw (w .1 .given .1) at next)) (λ w. rw (w .2) (rw (w .1 .given .1) at next)))
     (c .match .came)
 
 returns : tie.Need-returns Inv-loop μ-loop
-unfolding kept fulfilments
+unfolding kept
 returns c =
+    let pre = c .before .before .before .before .before .pre in
     counting-done _ _ _ _ _ _ _ (c .before .loop .inv) (c .loop-test .left)
+    ∙ replay-counts _ _ _ _ (pre .1 .1 .0) (pre .1 .1 .1 .0) (pre .0) (pre .1 .0)
 
 pub fulfilled-by-spec : {M : Type 1} → statement M
 fulfilled-by-spec =

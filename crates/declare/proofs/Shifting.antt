@@ -1,0 +1,131 @@
+-- Shifting follows the tables: it ends in the same state, and tells its verdict.
+-- Assumes nothing.
+use Prim.Native.Nat.{ℕ, _+_, _-_, _*_, _/_, _%_, _^_, _≤_, _<_}
+use native.Mathlib.Omega.{arith}
+use mathlib.Core.Path.{_≡_, refl, ap, ap₂, _∙_}
+use mathlib.Core.Bool.{Bool, true, false}
+use mathlib.Core.List.{List, [], _∷_, map}
+use borrow.Author.Tests.{eqb-true, eqb-false, ne-eqb}
+use lib.Dec.{eqb}
+use lib.ListN.{getD, set, replicate, length, length-set, getD-replicate}
+use lib.Seq.{getD-set-same, getD-set-other}
+use Rattle.base.specs.Logic.{if_then_else_}
+use Rattle.base.specs.Lists.{all, range}
+use Rattle.base.proofs.Lists.{all-range}
+use Rattle.base.proofs.Bools.{either}
+use Rattle.declare.specs.declared.Automaton.{Automaton}
+use Rattle.declare.specs.Automata.{state-verdicts, next-of, verdict-of, letter, follow, told, moves-word, verdicts-word, automaton, moves-of, start, advance-all, verdict-by, activity, beside}
+use Rattle.declare.proofs.Ranges.{inside}
+use Rattle.declare.proofs.Agreement.{letter-small}
+
+-- ## The words
+
+-- what passes at each state of each template
+at-every-state : (p : ℕ → ℕ → Bool) → all (λ t. all (p t) (range 0 8)) (range 1 24) ≡ true
+    → (template k : ℕ) → 1 ≤ template → template ≤ 24 → k < 8 → p template k ≡ true
+at-every-state p h template k low high small =
+    all-range (p template) 0 8 k (all-range (λ t. all (p t) (range 0 8)) 1 24 template h low (omega arith)) (omega arith) small
+
+abbrev moves-right : ℕ → ℕ → ℕ → Bool
+moves-right t k l = eqb (moves-word t l / 2 ^ (8 * k) % 64) (8 * next-of t k l)
+
+-- by these all next states are below 8, too
+all-moves-right : all (λ t. all (λ k. all (moves-right t k) (range 0 3)) (range 0 8)) (range 1 24) ≡ true
+unfolding moves-word next-of
+all-moves-right = refl
+
+abbrev verdict-right : ℕ → ℕ → Bool
+verdict-right t k = eqb (verdicts-word t / 2 ^ (8 * k) % 64) (getD state-verdicts (8 * (t - 1) + k) 0)
+
+all-verdicts-right : all (λ t. all (verdict-right t) (range 0 8)) (range 1 24) ≡ true
+unfolding verdicts-word state-verdicts
+all-verdicts-right = refl
+
+abbrev words : ℕ → Automaton
+words t = record { a = moves-word t 0; b = moves-word t 1; other = moves-word t 2; verdicts = verdicts-word t }
+
+-- ## The moves
+
+set-at : (l : List ℕ) (i j y : ℕ) → i < length l → getD (set l i y) j 0 ≡ (if eqb j i then y else getD l j 0)
+set-at l i j y h =
+    either (eqb j i) (λ e. rw (e, eqb-true j i e) (getD-set-same l i y 0 h)) (λ e. rw e (getD-set-other l i j y 0 (eqb-false j i e)))
+
+-- where b is a, no event is b
+beside-says : (a b x : ℕ) → x < 32 → eqb x a ≡ false → eqb x (beside a b) ≡ eqb x b
+beside-says a b x small e =
+    either (eqb a b) (λ f. rw (f, ← eqb-true a b f, e) (ne-eqb x 32 (λ g. omega arith))) (λ f. rw f)
+
+-- each activity's number is that of its letter
+pub chosen : (word : ℕ → ℕ) (a b x : ℕ)
+    → getD (set (set (replicate 32 (word 2)) (b % 32) (word 1)) (a % 32) (word 0)) (x % 32) 0
+    ≡ word (letter (activity a) (beside (activity a) (activity b)) (activity x))
+chosen word a b x =
+    let others = replicate 32 (word 2) in
+    set-at (set others (b % 32) (word 1)) (a % 32) (x % 32) (word 0) (rw length-set (omega arith))
+    ∙ ap (λ n. if eqb (x % 32) (a % 32) then word 0 else n)
+    (set-at others (b % 32) (x % 32) (word 1) (omega arith)
+    ∙ ap (λ n. if eqb (x % 32) (b % 32) then word 1 else n) (getD-replicate 32 (x % 32) (word 2) 0 (omega arith)))
+    ∙ go (eqb (x % 32) (a % 32)) refl
+  where
+    pick : (q : Bool) → (if q then word 1 else word 2) ≡ word (if q then 1 else 2)
+    pick true = refl
+    pick false = refl
+
+    go : (p : Bool) → eqb (x % 32) (a % 32) ≡ p
+        → (if p then word 0 else if eqb (x % 32) (b % 32) then word 1 else word 2)
+        ≡ word (if p then 0 else if eqb (x % 32) (beside (a % 32) (b % 32)) then 1 else 2)
+    go true e = refl
+    go false e = rw (beside-says (a % 32) (b % 32) (x % 32) (omega arith) e) (pick (eqb (x % 32) (b % 32)))
+
+-- ## The trace
+
+whole : (k : ℕ) → k < 8 → 8 * k % 64 ≡ 8 * k
+whole k small = omega arith
+
+module _ (template : ℕ) (low : 1 ≤ template) (high : template ≤ 24) where
+  moved : (k l : ℕ) → k < 8 → l < 3 → moves-word template l / 2 ^ (8 * k) % 64 ≡ 8 * next-of template k l
+  moved k l small few =
+      eqb-true _ _
+      (all-range (moves-right template k) 0 3 l (at-every-state (λ t k. all (moves-right t k) (range 0 3)) all-moves-right template k low high small)
+      (omega arith) few)
+
+  next-small : (k l : ℕ) → k < 8 → l < 3 → next-of template k l < 8
+  next-small k l small few = omega (arith, moved k l small few)
+
+  follow-small : (a b k : ℕ) (trace : List ℕ) → k < 8 → follow template a b k trace < 8
+  follow-small a b k [] small = small
+  follow-small a b k (x ∷ trace) small = follow-small a b _ trace (next-small k (letter a b x) small (letter-small a b x))
+
+  known-automaton : automaton template ≡ words template
+  unfolding automaton
+  known-automaton = rw (inside 1 template 24 low high)
+
+  module _ (a b : ℕ) where
+    -- b as the automaton sees it
+    other : ℕ
+    other = beside (activity a) (activity b)
+
+    shifted-from : (k : ℕ) (trace : List ℕ) → k < 8
+        → advance-all (moves-of (words template) a b) (record { state = 8 * k }) trace .state
+        ≡ 8 * follow template (activity a) other k (map activity trace)
+    unfolding other
+    shifted-from k [] small = refl
+    shifted-from k (x ∷ trace) small =
+        let l = letter (activity a) other (activity x) in
+        let few = letter-small (activity a) other (activity x) in
+        ap (λ n. advance-all (moves-of (words template) a b) (record { state = n }) trace .state)
+        (ap₂ (λ w n. w / 2 ^ n % 64) (chosen (moves-word template) a b x) (whole k small) ∙ moved k l small few)
+        ∙ shifted-from (next-of template k l) trace (next-small k l small few)
+
+    -- what shifting tells is the verdict of the state that the trace leads to
+    pub shifted : (trace : List ℕ)
+        → verdict-by (automaton template .verdicts) (advance-all (moves-of (automaton template) a b) start trace)
+        ≡ verdict-of template (follow template (activity a) (beside (activity a) (activity b)) 0 (map activity trace))
+    unfolding other verdict-of
+    shifted trace =
+        let k = follow template (activity a) other 0 (map activity trace) in
+        let small = follow-small (activity a) other 0 (map activity trace) (omega arith) in
+        ap (λ (m : Automaton). verdict-by (m .verdicts) (advance-all (moves-of m a b) start trace)) known-automaton
+        ∙ ap (λ n. told (verdicts-word template / 2 ^ n % 64)) (ap (λ n. n % 64) (shifted-from 0 trace (omega arith)) ∙ whole k small)
+        ∙ ap told
+        (eqb-true (verdicts-word template / 2 ^ (8 * k) % 64) (getD state-verdicts (8 * (template - 1) + k) 0) (at-every-state verdict-right all-verdicts-right template k low high small))
