@@ -144,6 +144,25 @@ fn times(automaton: &Automaton, log: &Log) -> ([f64; 3], FindAnswer) {
     (best, said[0].unwrap())
 }
 
+/// What a step by shifting cannot go below: the nanoseconds of a shift that waits for the one before it, its number at hand.
+fn shift_alone() -> f64 {
+    let numbers: [u64; 64] = std::array::from_fn(|k| 0x0807_0605_0403_0201 ^ k as u64);
+    let rounds = 20_000;
+    let mut best = f64::MAX;
+    for _ in 0..20 {
+        let mut state = 0;
+        let before = now();
+        for _ in 0..rounds {
+            for number in black_box(&numbers) {
+                state = (number >> (state % 64)) % 64;
+            }
+        }
+        best = best.min(now() - before);
+        black_box(state);
+    }
+    best * 1e9 / (rounds * numbers.len()) as f64
+}
+
 fn print_times() {
     let automaton = Automaton::new();
     println!(
@@ -151,6 +170,7 @@ fn print_times() {
         "log", "N", "traces", "events", "threshold", "replayed", "archive ms", "plain", "library", "to plain", "to library"
     );
     let mut worst = [0f64; 2];
+    let mut long = Vec::new();
     for n in [5, 16, 32] {
         for log in logs(n) {
             let (t, said) = times(&automaton, &log);
@@ -170,9 +190,13 @@ fn print_times() {
                 ratios[1]
             );
             worst = [worst[0].max(ratios[0]), worst[1].max(ratios[1])];
+            if log.name == "few long" {
+                long.push(format!("{:.2}", t[0] * 1e9 / (said.replayed as f64 * log.events() as f64)));
+            }
         }
     }
     println!("worst: {:.2} to the plain finder, {:.2} to the one with the library's search", worst[0], worst[1]);
+    println!("nanoseconds an event replayed, few long: {} by the archive; a shift alone: {:.2}", long.join(", "), shift_alone());
 }
 
 /// Runs one find under callgrind, in a process of its own, and gives the instructions of the find alone.
