@@ -28,7 +28,7 @@ advance-snoc moves r (y ∷ trace) x = advance-snoc moves (advance moves r y) tr
 -- of no template: the state stays 0
 stays : (a b : ℕ) (trace : List ℕ) → advance-all (moves-of no-automaton a b) start trace ≡ start
 stays a b [] = refl
-stays a b (x ∷ trace) = rw (chosen (λ l. 0) a b x) (stays a b trace)
+stays a b (x ∷ trace) = rw (chosen (λ l. 0) 1 a b x) (stays a b trace)
 
 beside-apart : (a b : ℕ) → a < 32 → eqb a (beside a b) ≡ false
 beside-apart a b small = either (eqb a b) (λ e. rw e (ne-eqb a 32 (λ f. omega arith))) (λ e. rw e e)

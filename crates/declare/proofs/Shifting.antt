@@ -14,7 +14,8 @@ use Rattle.base.specs.Lists.{all, range}
 use Rattle.base.proofs.Lists.{all-range}
 use Rattle.base.proofs.Bools.{either}
 use Rattle.declare.specs.declared.Automaton.{Automaton}
-use Rattle.declare.specs.Automata.{state-verdicts, next-of, verdict-of, letter, follow, told, moves-word, verdicts-word, automaton, moves-of, start, advance-all, verdict-by, activity, beside}
+use Rattle.declare.specs.declared.Replayer.{Replayer}
+use Rattle.declare.specs.Automata.{state-verdicts, next-of, verdict-of, letter, follow, told, moves-word, verdicts-word, automaton, moves-of, start, shift-of, advance, advance-all, verdict-by, activity, beside}
 use Rattle.declare.proofs.Ranges.{inside}
 use Rattle.declare.proofs.Agreement.{letter-small}
 
@@ -26,8 +27,12 @@ at-every-state : (p : ℕ → ℕ → Bool) → all (λ t. all (p t) (range 0 8)
 at-every-state p h template k low high small =
     all-range (p template) 0 8 k (all-range (λ t. all (p t) (range 0 8)) 1 24 template h low (omega arith)) (omega arith) small
 
+-- what a letter's number, shifted by eight times a state's number, leaves as the next shift
+abbrev shift-after : ℕ → ℕ → ℕ
+shift-after word shift = shift-of (record { state = word / 2 ^ shift })
+
 abbrev moves-right : ℕ → ℕ → ℕ → Bool
-moves-right t k l = eqb (moves-word t l / 2 ^ (8 * k) % 64) (8 * next-of t k l)
+moves-right t k l = eqb (shift-after (moves-word t l) (8 * k)) (8 * next-of t k l)
 
 -- by these all next states are below 8, too
 all-moves-right : all (λ t. all (λ k. all (moves-right t k) (range 0 3)) (range 0 8)) (range 1 24) ≡ true
@@ -41,8 +46,12 @@ all-verdicts-right : all (λ t. all (verdict-right t) (range 0 8)) (range 1 24) 
 unfolding verdicts-word state-verdicts
 all-verdicts-right = refl
 
+-- an automaton by its letters' numbers
+abbrev lettered : (ℕ → ℕ) → ℕ → Automaton
+lettered word verdicts = record { a = word 0; b = word 1; other = word 2; verdicts = verdicts }
+
 abbrev words : ℕ → Automaton
-words t = record { a = moves-word t 0; b = moves-word t 1; other = moves-word t 2; verdicts = verdicts-word t }
+words t = lettered (moves-word t) (verdicts-word t)
 
 -- ## The moves
 
@@ -56,10 +65,9 @@ beside-says a b x small e =
     either (eqb a b) (λ f. rw (f, ← eqb-true a b f, e) (ne-eqb x 32 (λ g. omega arith))) (λ f. rw f)
 
 -- each activity's number is that of its letter
-pub chosen : (word : ℕ → ℕ) (a b x : ℕ)
-    → getD (set (set (replicate 32 (word 2)) (b % 32) (word 1)) (a % 32) (word 0)) (x % 32) 0
-    ≡ word (letter (activity a) (beside (activity a) (activity b)) (activity x))
-chosen word a b x =
+pub chosen : (word : ℕ → ℕ) (verdicts a b x : ℕ)
+    → getD (moves-of (lettered word verdicts) a b) (x % 32) 0 ≡ word (letter (activity a) (beside (activity a) (activity b)) (activity x))
+chosen word verdicts a b x =
     let others = replicate 32 (word 2) in
     set-at (set others (b % 32) (word 1)) (a % 32) (x % 32) (word 0) (rw length-set (omega arith))
     ∙ ap (λ n. if eqb (x % 32) (a % 32) then word 0 else n)
@@ -79,11 +87,8 @@ chosen word a b x =
 
 -- ## The trace
 
-whole : (k : ℕ) → k < 8 → 8 * k % 64 ≡ 8 * k
-whole k small = omega arith
-
 module _ (template : ℕ) (low : 1 ≤ template) (high : template ≤ 24) where
-  moved : (k l : ℕ) → k < 8 → l < 3 → moves-word template l / 2 ^ (8 * k) % 64 ≡ 8 * next-of template k l
+  moved : (k l : ℕ) → k < 8 → l < 3 → shift-after (moves-word template l) (8 * k) ≡ 8 * next-of template k l
   moved k l small few =
       eqb-true _ _
       (all-range (moves-right template k) 0 3 l (at-every-state (λ t k. all (moves-right t k) (range 0 3)) all-moves-right template k low high small)
@@ -105,17 +110,16 @@ module _ (template : ℕ) (low : 1 ≤ template) (high : template ≤ 24) where
     other : ℕ
     other = beside (activity a) (activity b)
 
-    shifted-from : (k : ℕ) (trace : List ℕ) → k < 8
-        → advance-all (moves-of (words template) a b) (record { state = 8 * k }) trace .state
-        ≡ 8 * follow template (activity a) other k (map activity trace)
+    shifted-from : (r : Replayer) (k : ℕ) (trace : List ℕ) → k < 8 → shift-of r ≡ 8 * k
+        → shift-of (advance-all (moves-of (words template) a b) r trace) ≡ 8 * follow template (activity a) other k (map activity trace)
     unfolding other
-    shifted-from k [] small = refl
-    shifted-from k (x ∷ trace) small =
+    shifted-from r k [] small here = here
+    shifted-from r k (x ∷ trace) small here =
+        let moves = moves-of (words template) a b in
         let l = letter (activity a) other (activity x) in
         let few = letter-small (activity a) other (activity x) in
-        ap (λ n. advance-all (moves-of (words template) a b) (record { state = n }) trace .state)
-        (ap₂ (λ w n. w / 2 ^ n % 64) (chosen (moves-word template) a b x) (whole k small) ∙ moved k l small few)
-        ∙ shifted-from (next-of template k l) trace (next-small k l small few)
+        shifted-from (advance moves r x) (next-of template k l) trace (next-small k l small few)
+        (ap₂ shift-after (chosen (moves-word template) (verdicts-word template) a b x) here ∙ moved k l small few)
 
     -- what shifting tells is the verdict of the state that the trace leads to
     pub shifted : (trace : List ℕ)
@@ -126,6 +130,6 @@ module _ (template : ℕ) (low : 1 ≤ template) (high : template ≤ 24) where
         let k = follow template (activity a) other 0 (map activity trace) in
         let small = follow-small (activity a) other 0 (map activity trace) (omega arith) in
         ap (λ (m : Automaton). verdict-by (m .verdicts) (advance-all (moves-of m a b) start trace)) known-automaton
-        ∙ ap (λ n. told (verdicts-word template / 2 ^ n % 64)) (ap (λ n. n % 64) (shifted-from 0 trace (omega arith)) ∙ whole k small)
+        ∙ ap (λ n. told (verdicts-word template / 2 ^ n % 64)) (shifted-from start 0 trace (omega arith) refl)
         ∙ ap told
         (eqb-true (verdicts-word template / 2 ^ (8 * k) % 64) (getD state-verdicts (8 * (template - 1) + k) 0) (at-every-state verdict-right all-verdicts-right template k low high small))

@@ -150,20 +150,23 @@ automaton template =
 abbrev pub moves-of : Automaton → ℕ → ℕ → List ℕ
 moves-of m a b = set (set (replicate 32 (m .other)) (b % 32) (m .b)) (a % 32) (m .a)
 
--- a replayer's state is eight times a state's number
 abbrev pub start : Replayer
 start = record { state = 0 }
 
+-- how far a number is shifted next: the lowest six bits of a replayer's state, which are eight times a state's number
+abbrev pub shift-of : Replayer → ℕ
+shift-of r = r .state % 64
+
 -- one event on
 abbrev pub advance : List ℕ → Replayer → ℕ → Replayer
-advance moves r event = record { state = getD moves (event % 32) 0 / 2 ^ (r .state % 64) % 64 }
+advance moves r event = record { state = getD moves (event % 32) 0 / 2 ^ shift-of r }
 
 abbrev pub advance-all : List ℕ → Replayer → List ℕ → Replayer
 advance-all moves r [] = r
 advance-all moves r (event ∷ trace) = advance-all moves (advance moves r event) trace
 
 abbrev pub verdict-by : ℕ → Replayer → Verdict
-verdict-by verdicts r = told (verdicts / 2 ^ (r .state % 64) % 64)
+verdict-by verdicts r = told (verdicts / 2 ^ shift-of r % 64)
 
 -- ## What replay of any numbers comes to
 

@@ -30,7 +30,8 @@ pub struct Automaton {
     pub verdicts: u64,
 }
 
-// Eight times the number of a state.
+// A number whose lowest six bits are eight times the number of a state. What stands above them is left there: the next shift looks at six
+// bits only, and to clear the others would be one more operation to wait for.
 pub struct Replayer {
     state: u64,
 }
@@ -139,7 +140,7 @@ impl Replayer {
         ensures { λ r. ⌜ r ≡ advance (now (moves .entry)) self event ⌝ }
     {
         let at = (event % 32) as usize;
-        self.state = (moves[at] >> (self.state % 64)) % 64;
+        self.state = moves[at] >> (self.state % 64);
         self
     }
 
