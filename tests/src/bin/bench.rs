@@ -83,6 +83,7 @@ fn counted_logs() -> Vec<Log> {
         log("middling", 16, 50, 40, 500),
         log("middling, short list", 16, 50, 40, 500).short_list(),
         log("few long", 32, 1, 400, 1),
+        log("one event", 5, 1, 1, 1000),
     ]
 }
 
@@ -163,36 +164,46 @@ fn shift_alone() -> f64 {
     best * 1e9 / (rounds * numbers.len()) as f64
 }
 
+/// How often all logs are gone over: what disturbs the machine for seconds then meets one of the goes, and not all rounds of a log.
+const GOES: usize = 3;
+
 fn print_times() {
     let automaton = Automaton::new();
+    let logs: Vec<Log> = [5, 16, 32].into_iter().flat_map(logs).collect();
+    let mut best = vec![([f64::MAX; 3], None); logs.len()];
+    for _ in 0..GOES {
+        for (log, (least, answer)) in logs.iter().zip(&mut best) {
+            let (t, said) = times(&automaton, log);
+            *least = std::array::from_fn(|which| least[which].min(t[which]));
+            *answer = Some(said);
+        }
+    }
     println!(
         "{:<20} {:>3} {:>6} {:>6} {:>9} {:>8} {:>10} {:>10} {:>10} {:>10} {:>12}",
         "log", "N", "traces", "events", "threshold", "replayed", "archive ms", "plain", "library", "to plain", "to library"
     );
     let mut worst = [0f64; 2];
     let mut long = Vec::new();
-    for n in [5, 16, 32] {
-        for log in logs(n) {
-            let (t, said) = times(&automaton, &log);
-            let ratios = [t[0] / t[1], t[0] / t[2]];
-            println!(
-                "{:<20} {:>3} {:>6} {:>6} {:>9} {:>8} {:>10.4} {:>10.4} {:>10.4} {:>10.2} {:>12.2}",
-                log.name,
-                n,
-                log.memory.record.traces,
-                log.events(),
-                log.threshold,
-                said.replayed,
-                t[0] * 1e3,
-                t[1] * 1e3,
-                t[2] * 1e3,
-                ratios[0],
-                ratios[1]
-            );
-            worst = [worst[0].max(ratios[0]), worst[1].max(ratios[1])];
-            if log.name == "few long" {
-                long.push(format!("{:.2}", t[0] * 1e9 / (said.replayed as f64 * log.events() as f64)));
-            }
+    for (log, (t, answer)) in logs.iter().zip(best) {
+        let replayed = answer.unwrap().replayed;
+        let ratios = [t[0] / t[1], t[0] / t[2]];
+        println!(
+            "{:<20} {:>3} {:>6} {:>6} {:>9} {:>8} {:>10.4} {:>10.4} {:>10.4} {:>10.2} {:>12.2}",
+            log.name,
+            log.memory.record.activities,
+            log.memory.record.traces,
+            log.events(),
+            log.threshold,
+            replayed,
+            t[0] * 1e3,
+            t[1] * 1e3,
+            t[2] * 1e3,
+            ratios[0],
+            ratios[1]
+        );
+        worst = [worst[0].max(ratios[0]), worst[1].max(ratios[1])];
+        if log.name == "few long" {
+            long.push(format!("{:.2}", t[0] * 1e9 / (replayed as f64 * log.events() as f64)));
         }
     }
     println!("worst: {:.2} to the plain finder, {:.2} to the one with the library's search", worst[0], worst[1]);
