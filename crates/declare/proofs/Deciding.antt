@@ -153,24 +153,20 @@ module _ (a b : ℕ) (test : List ℕ → Bool) (ready bad : Summary → Bool)
       (each-on (before ++ (x ∷ [])) trace (λ before x after. eqb x b implies test before)))
 
 early-after : (a b : ℕ) (trace : List ℕ) → not (after (no-event-yet a b) trace .early) ≡ precedence a b trace
-unfolding agree
 early-after a b trace =
     bad-after a b (occurs a) (λ s. s .one) (λ s. s .early) (λ s x e. ap (λ (n : ℕ). s .early || (eqb x n && not (s .one))) e)
     (λ s x before d e h.
     ap₂ (λ (p : Bool) (n : ℕ). p || eqb x n) h d
-    ∙ by-cases 2 (λ p q. p || q) (λ p q. p || q) refl (occurs a before) (eqb x a)
     ∙ sym (occurs-snoc a x before))
     (no-event-yet a b) [] trace refl refl refl
 
 bare-after : (a b : ℕ) (trace : List ℕ) → not (after (no-event-yet a b) trace .bare) ≡ alternate-precedence a b trace
-unfolding agree
 bare-after a b trace =
     bad-after a b (λ before. some before (unanswered a b)) (λ s. s .owed) (λ s. s .bare)
     (λ s x e. ap (λ (n : ℕ). s .bare || (eqb x n && not (s .owed))) e)
     (λ s x before d e h.
     ap (λ (p : Bool). eqb x (s .a) || (p && not (eqb x (s .b)))) h
     ∙ ap₂ (λ (m n : ℕ). eqb x m || (some before (unanswered a b) && not (eqb x n))) d e
-    ∙ by-cases 3 (λ p q r. p || (q && not r)) (λ p q r. p || (q && not r)) refl (eqb x a) (some before (unanswered a b)) (eqb x b)
     ∙ sym (unanswered-snoc a b x [] before))
     (no-event-yet a b) [] trace refl refl refl
 
@@ -267,10 +263,6 @@ module _ (a b : ℕ) (trace : List ℕ) where
   unfolding end
   occurring f g h = ap₂ f (one-after (no-event-yet a b) trace) (seen-after (no-event-yet a b) trace) ∙ by-cases 2 f g h (occurs a trace) (occurs b trace)
 
-  both : {p q p′ q′ : Bool} → p ≡ p′ → q ≡ q′ → p && q ≡ p′ && q′
-  unfolding agree
-  both {p′ = p′} {q′ = q′} h k = ap₂ _&&_ h k ∙ by-cases 2 (λ p q. p && q) (λ p q. p && q) refl p′ q′
-
   -- the table of answers is the list of the templates' meanings
   answers-right : answers end ≡ map (λ (m : Meaning). m a b trace) (never ∷ meanings)
   unfolding meanings agree end
@@ -296,9 +288,9 @@ module _ (a b : ℕ) (trace : List ℕ) where
       then early-after a b trace
       then bare-after a b trace
       then loose-after a b trace
-      then both (owed-after s [] trace) (early-after a b trace)
-      then both (alternate-after s [] trace) (bare-after a b trace)
-      then both (chain-after s [] trace) (loose-after a b trace)
+      then ap₂ _&&_ (owed-after s [] trace) (early-after a b trace)
+      then ap₂ _&&_ (alternate-after s [] trace) (bare-after a b trace)
+      then ap₂ _&&_ (chain-after s [] trace) (loose-after a b trace)
       then later-after s [] trace
       then next-after s [] trace
       then refl

@@ -13,8 +13,8 @@ use Rattle.base.proofs.Bools.{and-left, and-right, either, clash}
 use Rattle.declare.specs.declared.Verdict.the-variants.{NotActivated}
 use Rattle.declare.specs.declared.Replayer.{Replayer}
 use Rattle.declare.specs.declared.constraints.Constraint.{Constraint}
-use Rattle.declare.specs.Meaning.{between, meanings, holds, activated, verdict}
-use Rattle.declare.specs.Automata.{no-automaton, automaton, moves-of, start, advance, advance-all, verdict-by, activity, beside}
+use Rattle.declare.specs.Meaning.{between, meanings, holds, activated, verdict, activity, beside}
+use Rattle.declare.specs.Automata.{no-automaton, automaton, moves-of, start, advance, advance-all, verdict-by}
 use Rattle.declare.specs.Constraints.{pairs, Over}
 use Rattle.declare.proofs.Ranges.{unnamed}
 use Rattle.declare.proofs.Agreement.{follow-right}

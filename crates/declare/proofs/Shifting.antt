@@ -15,7 +15,8 @@ use Rattle.base.proofs.Lists.{all-range}
 use Rattle.base.proofs.Bools.{either}
 use Rattle.declare.specs.declared.Automaton.{Automaton}
 use Rattle.declare.specs.declared.Replayer.{Replayer}
-use Rattle.declare.specs.Automata.{state-verdicts, next-of, verdict-of, letter, follow, told, moves-word, verdicts-word, automaton, moves-of, start, shift-of, advance, advance-all, verdict-by, activity, beside}
+use Rattle.declare.specs.Meaning.{activity, beside}
+use Rattle.declare.specs.Automata.{state-verdicts, next-of, verdict-of, letter, follow, told, moves-word, verdicts-word, automaton, moves-of, start, shift-of, advance, advance-all, verdict-by}
 use Rattle.declare.proofs.Ranges.{inside}
 use Rattle.declare.proofs.Agreement.{letter-small}
 

@@ -1,5 +1,5 @@
--- The automata of the templates, the two tables that hold them, and replay by shifting. Nothing here has to be believed but the last section,
--- which says what `replay` promises of any numbers: proofs/Following.antt shows that the rest comes to `verdict`.
+-- The automata of the templates, the two tables that hold them, and replay by shifting. Nothing here has to be believed: proofs/Following.antt
+-- shows that it comes to `verdict`.
 -- Assumes nothing.
 use Prim.Native.Nat.{ℕ, zero, suc, _+_, _-_, _*_, _/_, _%_, _^_}
 use mathlib.Core.List.{List, [], _∷_, map}
@@ -70,6 +70,7 @@ state-of template k =
     let states = getD automata (template - 1) [] in
     getD states k (getD states 0 (to 0 0 0 NotActivated))
 
+-- where a letter (0 for a, 1 for b, 2 for any other) leads from a state
 abbrev pub led : State → ℕ → ℕ
 led s letter = getD (s .on-a ∷ s .on-b ∷ s .on-other ∷ []) letter 0
 
@@ -167,13 +168,3 @@ advance-all moves r (event ∷ trace) = advance-all moves (advance moves r event
 
 abbrev pub verdict-by : ℕ → Replayer → Verdict
 verdict-by verdicts r = told (verdicts / 2 ^ shift-of r % 64)
-
--- ## What replay of any numbers comes to
-
--- an activity is a number below 32; any other number is taken by its remainder
-abbrev pub activity : ℕ → ℕ
-activity n = n % 32
-
--- b as replay takes it beside a: where it is a itself, a number that no event has
-abbrev pub beside : ℕ → ℕ → ℕ
-beside a b = if eqb a b then 32 else b

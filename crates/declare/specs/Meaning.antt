@@ -1,6 +1,6 @@
 -- What the 24 templates mean on a trace of activities (document 01: a run of steps), after its section of that name.
 -- Assumes nothing.
-use Prim.Native.Nat.{ℕ, suc}
+use Prim.Native.Nat.{ℕ, suc, _%_}
 use mathlib.Core.Bool.{Bool, true, false, not, _&&_, _||_}
 use mathlib.Core.List.{List, [], _∷_, _++_}
 use lib.Dec.{eqb, leb}
@@ -148,3 +148,13 @@ fulfilled template a b trace = activated template a b trace && holds template a 
 unfoldable pub verdict : ℕ → ℕ → ℕ → List ℕ → Verdict
 verdict template a b trace =
     if activated template a b trace then (if holds template a b trace then Fulfilled else Violated) else NotActivated
+
+-- ## Any numbers, for `replay`
+
+-- an activity is a number below 32; any other number is taken by its remainder
+abbrev pub activity : ℕ → ℕ
+activity n = n % 32
+
+-- b as it is taken beside a: where it is a itself, a number that no event has
+abbrev pub beside : ℕ → ℕ → ℕ
+beside a b = if eqb a b then 32 else b

@@ -11,8 +11,8 @@ ghost use Prim.Native.Nat.{_+_, _*_, _<_, _≤_};
 ghost use mathlib.Core.Path.{_≡_};
 ghost use mathlib.Core.List.{map, _∷_, []};
 ghost use lib.ListN.{length};
-ghost use Rattle.declare.specs.Meaning.{verdict};
-ghost use Rattle.declare.specs.Automata.{next-states, state-verdicts, packed as packed-from, moves-word, verdicts-word as verdicts-of, automaton, no-automaton as none, moves-of, start, advance, advance-all, verdict-by, activity, beside};
+ghost use Rattle.declare.specs.Meaning.{verdict, activity, beside};
+ghost use Rattle.declare.specs.Automata.{next-states, state-verdicts, packed as packed-from, moves-word, verdicts-word as verdicts-of, automaton, no-automaton as none, moves-of, start, advance, advance-all, verdict-by};
 
 // What a trace is for a constraint (document 01: a run for a rule): fulfilled, not activated (01: idle), or violated (01: broken).
 pub enum Verdict {
@@ -50,6 +50,9 @@ pub fn state_verdicts() -> [u8; 192]
     tables::VERDICTS
 }
 
+// 2 to the 56th: a number below it leaves the highest of eight bytes free.
+const SEVEN_BYTES: u64 = 72057594037927936;
+
 // Eight entries of a table as one number, a byte each. The remainders keep it in 64 bits, whatever the entries are; of the tables they
 // take nothing away (proofs/Shifting).
 fn packed(table: &[u8], from: usize, apart: usize, times: u64) -> u64
@@ -61,7 +64,7 @@ fn packed(table: &[u8], from: usize, apart: usize, times: u64) -> u64
     while 0 < k {
         k -= 1;
         let entry = table[from + apart * k] as u64;
-        word = word % 72057594037927936 * 256 + times * entry % 256;
+        word = word % SEVEN_BYTES * 256 + times * entry % 256;
     }
     word
 }
