@@ -38,8 +38,8 @@
  *   11  no run kept                                                0              the operator
  *   12  more than 65536 bytes of input                             0              the program that lends memory
  * What is sound, `budgieleaf_is_sound` says. A line is the log's, from 1. Add has no lines: its detail is 0 in 7, 8
- * and 9, and in 6 the place, from 1, of a step that is not below N, any one of them. Open has no answer, and so no
- * detail. Only findrules gives 12.
+ * and 9, and in 6 the place, from 1, of the first step that is not below N. Open has no answer, and so no detail. Only
+ * findrules gives 12.
  *
  * TEMPLATES, by number with the field's names; README says when each holds.
  *    1 Existence(1)      9 Choice                   17 Precedence
@@ -78,7 +78,7 @@ bool budgieleaf_is_sound(const uint32_t store[2], const uint8_t *events, size_t 
 
 /*
  * One trace more, of 0 to 4096 activities, behind those kept. Accepted: answer is { 0, 0, 0 }.
- * Refusals, the first that holds: 1, 6, 7, 8, 9. For 6 the detail is the place of some activity that is not below N.
+ * Refusals, the first that holds: 1, 6, 7, 8, 9. For 6 the detail is the lowest place of an activity not below N.
  */
 uint32_t budgieleaf_add(uint32_t store[2], uint8_t *events, size_t events_length, uint32_t *ends, size_t ends_length,
                         const uint8_t *trace, size_t trace_length, uint64_t answer[3]);

@@ -40,7 +40,7 @@ int main(void)
                               "     2  0\n     2  1\n     2  1\n     2  2\n"
                               "     5  0\n     5  2\n";
     static const uint8_t by_hand[] = {0, 1, 2};
-    static const uint8_t mistyped[] = {0, 1, 7};
+    static const uint8_t mistyped[] = {0, 7, 1, 9};
     uint64_t answer[3];
     uint32_t number = budgieleaf_open(3, store);
 
@@ -57,7 +57,7 @@ int main(void)
         return refused("add", number, answer[0]);
     printf("add: %" PRIu32 " traces are kept\n", store[1]);
 
-    /* A refused call changes nothing, and says why. */
+    /* A refused call changes nothing, and says why: the first mistyped activity stands at place 2. */
     number = add(mistyped, sizeof mistyped, answer);
     if (number != 0)
         refused("add", number, answer[0]);

@@ -40,16 +40,6 @@ pub fn make(calls: &mut dyn Calls, memory: &mut Memory, call: &mut Call) -> Said
     said.unwrap_or_else(Said::Refused)
 }
 
-/// The same answer, but for the place in add's refusal 6: any undeclared activity of the trace.
-pub fn agree(expected: Said, said: Said, call: &Call, n: u32) -> bool {
-    match (expected, said, call) {
-        (Said::Refused(Refusal { number: 6, .. }), Said::Refused(Refusal { number: 6, detail }), Call::Add(trace)) => {
-            detail >= 1 && detail <= trace.len() as u64 && trace[detail as usize - 1] as u32 >= n
-        }
-        _ => expected == said,
-    }
-}
-
 fn arguments_kept(before: &Call, after: &Call) -> bool {
     match (before, after) {
         (Call::Add(x), Call::Add(y)) | (Call::Read(x), Call::Read(y)) => x == y,
@@ -65,7 +55,7 @@ pub fn compare(subject: &mut dyn Calls, memory: &mut Memory, call: &Call) -> Res
     let wanted = make(&mut Model, &mut expected, &mut modelled);
     let said = make(subject, memory, &mut subjects);
     let failed = |what: &str| Err(format!("{what}: {call:?} on {before:?} said {said:?} where {wanted:?} was expected; left {memory:?}"));
-    if !agree(wanted, said, call, before.record.activities) {
+    if wanted != said {
         return failed("answer");
     }
     if let Some(part) = memory.difference(&expected) {
@@ -117,10 +107,9 @@ impl<C: Calls> History<C> {
     }
 
     pub fn call(&mut self, call: Call) -> Result<Said, String> {
-        let n = self.ledger.n;
         let said = compare(&mut self.subject, &mut self.memory, &call)?;
         let wanted = in_ledger(&mut self.ledger, &call);
-        if !agree(wanted, said, &call, n) {
+        if wanted != said {
             return Err(format!("the ledger answers {wanted:?} and not {said:?} to {call:?}"));
         }
         self.tally[if let Said::Refused(r) = said { r.number as usize } else { 0 }] += 1;
@@ -147,7 +136,11 @@ fn added_trace(rng: &mut Rng, n: u32, longest: usize) -> Vec<u8> {
                 w.insert(rng.below(w.len() + 1), rng.byte());
             }
         }
-        2 if longest > 4000 => w.resize(rng.pick(&[4095, 4096, 4097, 5000]), 0),
+        2 => {
+            w.insert(0, rng.pick(&[n as u8, 255]));
+            w.push(rng.pick(&[n as u8, 255]));
+        }
+        3 if longest > 4000 => w.resize(rng.pick(&[4095, 4096, 4097, 5000]), 0),
         _ => {}
     }
     w

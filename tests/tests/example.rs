@@ -29,5 +29,5 @@ fn the_c_example_compiles_and_prints_what_it_should() {
         expected += &format!("{template:>2} {a:>2} {b:>2} {count:>4}\n");
     }
     assert!(printed.ends_with(&expected), "{printed}{expected}");
-    assert!(printed.contains("add: refusal 6, detail 3\n") && printed.contains("find: refusal 10, detail"));
+    assert!(printed.contains("add: refusal 6, detail 2\n") && printed.contains("find: refusal 10, detail"));
 }

@@ -36,6 +36,7 @@ enum Fault {
     Number,
     Detail,
     PlaceOfDeclared,
+    HighestPlace,
     ListPast,
     ListEntry,
     ListOrder,
@@ -46,7 +47,7 @@ enum Fault {
     ReadCount,
 }
 
-const FAULTS: [Fault; 18] = [
+const FAULTS: [Fault; 19] = [
     Fault::OpensAny,
     Fault::EventPast,
     Fault::EndPast,
@@ -57,6 +58,7 @@ const FAULTS: [Fault; 18] = [
     Fault::Number,
     Fault::Detail,
     Fault::PlaceOfDeclared,
+    Fault::HighestPlace,
     Fault::ListPast,
     Fault::ListEntry,
     Fault::ListOrder,
@@ -84,7 +86,7 @@ impl Faulty {
         if self.when(Fault::Number, true) {
             r.number += 1;
         }
-        if self.when(Fault::Detail, r.number != 6) {
+        if self.when(Fault::Detail, true) {
             r.detail += 1;
         }
     }
@@ -129,6 +131,10 @@ impl Calls for Faulty {
             let declared = trace.iter().position(|&x| (x as u32) < before.activities);
             if self.when(Fault::PlaceOfDeclared, r.number == 6 && declared.is_some()) {
                 r.detail = declared.unwrap() as u64 + 1;
+            }
+            let highest = trace.iter().rposition(|&x| x as u32 >= before.activities).map_or(0, |k| k as u64 + 1);
+            if self.when(Fault::HighestPlace, r.number == 6 && highest > r.detail) {
+                r.detail = highest;
             }
         }
         self.memory(said.is_ok(), before, memory);

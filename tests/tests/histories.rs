@@ -7,7 +7,7 @@ use budgieleaf_tests::gen;
 use budgieleaf_tests::lent::Lent;
 use budgieleaf_tests::oracle::finder::NUMBERS;
 use budgieleaf_tests::oracle::ledger::refusal;
-use budgieleaf_tests::play::{play, Call, History, Said, Sizes};
+use budgieleaf_tests::play::{compare, play, Call, History, Said, Sizes};
 use budgieleaf_tests::rng::{cases, Rng};
 
 fn random(name: &str, seed: u64, default: usize, answers: &[usize], sizes: impl Fn(&mut Rng) -> Sizes) {
@@ -135,6 +135,55 @@ fn rows_of_document_01() {
     assert_eq!(call(Call::Open(33)), Said::Refused(refusal(2, 0)));
     assert_eq!(call(Call::Add(vec![31; 4096])), Said::Added);
     assert_eq!(call(Call::Add(vec![31; 4097])), Said::Refused(refusal(7, 0)));
+}
+
+/// Refusal 6 of add carries the lowest place of an undeclared step, whatever stands behind it, before 7, 8 and 9; that of read a line.
+#[test]
+fn the_lowest_undeclared_place() {
+    let rng = &mut Rng::new(16);
+    let mut history = History::fresh(Archive, rng, 2, 8, 2);
+    let mut call = |call| history.call(call).unwrap();
+    let traces: [(&[u8], usize); 9] = [
+        (&[2], 1),
+        (&[2, 0, 1], 1),
+        (&[0, 1, 2], 3),
+        (&[2, 0, 1, 2], 1),
+        (&[0, 2, 1, 3, 2], 2),
+        (&[1, 0, 255, 2, 255, 0], 3),
+        (&[255, 2, 3], 1),
+        (&[0, 0, 0, 0, 0, 0, 0, 0, 2], 9),
+        (&[0, 0, 0, 0, 0, 0, 0, 0, 0, 33, 32], 10),
+    ];
+    for (trace, place) in traces {
+        assert_eq!(call(Call::Add(trace.to_vec())), Said::Refused(refusal(6, place)), "{trace:?}");
+    }
+    let mut long = vec![1; 5000];
+    for place in [5000, 4999, 4097, 4096, 2, 1] {
+        long[place - 1] = 2;
+        assert_eq!(call(Call::Add(long.clone())), Said::Refused(refusal(6, place)));
+    }
+    assert_eq!(call(Call::Read(b"     1  0\n     1  1\n     2  2\n     2  3\n".to_vec())), Said::Refused(refusal(6, 3)));
+    assert_eq!(call(Call::Add(vec![0, 1])), Said::Added);
+    assert_eq!(call(Call::Add(vec![])), Said::Added);
+    assert_eq!(call(Call::Add(vec![1, 0])), Said::Refused(refusal(8, 0)));
+    assert_eq!(call(Call::Add(vec![1, 2, 0, 2])), Said::Refused(refusal(6, 2)));
+}
+
+/// Every trace of at most five events, some declared and some not.
+#[test]
+fn all_short_traces_with_undeclared_steps() {
+    let rng = &mut Rng::new(18);
+    for n in [1, 2, 31, 32] {
+        let fresh = History::fresh(Archive, rng, n, 5, 1);
+        let events = [0, n as u8 - 1, n as u8, 255];
+        for (len, k) in (0..=5).flat_map(|len| (0..4usize.pow(len)).map(move |k| (len, k))) {
+            let trace: Vec<u8> = (0..len).map(|digit| events[k / 4usize.pow(digit) % 4]).collect();
+            let said = compare(&mut Archive, &mut fresh.memory.clone(), &Call::Add(trace.clone())).unwrap();
+            let declared = trace.iter().take_while(|&&x| (x as u32) < n).count();
+            let expected = if declared == trace.len() { Said::Added } else { Said::Refused(refusal(6, declared + 1)) };
+            assert_eq!(said, expected, "{trace:?} of {n} activities");
+        }
+    }
 }
 
 /// Two finds alike in N, threshold and traces, whatever their order, give the same list and numbers.

@@ -17,7 +17,9 @@ fn some_calls(rng: &mut Rng, memory: &Memory) -> Vec<Call> {
     let n = memory.record.activities.clamp(1, 32);
     let mut trace = gen::trace(rng, n, 6);
     if rng.chance(20) {
-        trace.push(rng.byte());
+        for _ in 0..rng.within(1, 3) {
+            trace.insert(rng.below(trace.len() + 1), rng.byte());
+        }
     }
     let count = rng.below(4);
     let traces = gen::traces(rng, n, count, 4);

@@ -1,4 +1,4 @@
--- Laws of lists: all, filter, count, range, flat map, equality, and parts.
+-- Laws of lists: all, find index, filter, count, range, flat map, equality, and parts.
 -- Assumes nothing.
 use Prim.Native.Nat.{ℕ, zero, suc, _+_, _-_, _≤_, _<_}
 use native.Mathlib.Omega.{arith}
@@ -6,14 +6,14 @@ use native.Mathlib.Decide.{ℕ-discrete}
 use native.Mathlib.Nat.{zero-add, add-zero, add-suc, suc-add, not-suc-le-zero, le-of-suc-le-suc}
 use mathlib.Core.Path.{_≡_, refl, sym, ap, ap₂, subst, _∙_}
 use mathlib.Core.Logic.{_⊎_, inl, inr, ⊎-elim}
-use mathlib.Core.Bool.{Bool, true, false, not, true≢false, false≢true}
+use mathlib.Core.Bool.{Bool, true, false, not, _&&_, true≢false, false≢true}
 use mathlib.Core.List.{List, [], _∷_, _++_, map, append-assoc, List·Memᴰ, List·Memᴰ·head, List·Memᴰ·tail, List·Memᴰ·not-nil, List·Memᴰ·cases-cons, List·Memᴰ·append-cases, Memᴰ·append-left, Memᴰ·append-right, Sublistᴰ, Sublistᴰ·slnil, Sublistᴰ·cons, Sublistᴰ·cons-cons, List·Permᴰ, List·Permᴰ·nil, List·Permᴰ·cons, List·Permᴰ·swap, List·Permᴰ·trans}
 use borrow.Author.Tests.{eqb-true, eqb-false}
-use lib.Dec.{eqb}
+use lib.Dec.{eqb, eqb·zero-suc, eqb·suc-suc}
 use lib.ListN.{length, take, drop, getD, length-append}
 use lib.Seq.{slice, take-nil}
 use Rattle.base.specs.Logic.{if_then_else_}
-use Rattle.base.specs.Lists.{filter, count, all, range, flat-map, equal-lists}
+use Rattle.base.specs.Lists.{filter, count, all, find-index, range, flat-map, equal-lists}
 use Rattle.base.proofs.Bools.{and-left, and-right, and-both, either}
 
 -- ## Parts
@@ -61,6 +61,42 @@ pub all-drop {ℓ} : {A : Type ℓ} (p : A → Bool) (n : ℕ) (xs : List A) →
 all-drop p zero xs h = h
 all-drop p (suc n) [] h = refl
 all-drop p (suc n) (x ∷ xs) h = all-drop p n xs (and-right (p x) (all p xs) h)
+
+-- ## Find index
+
+module _ {ℓ} {A : Type ℓ} (p : A → Bool) where
+  pub find-index-within : (xs : List A) → find-index p xs ≤ length xs
+  find-index-within [] = omega arith
+  find-index-within (x ∷ xs) = go (p x) _ _ (find-index-within xs)
+    where
+      go : (t : Bool) (i k : ℕ) → i ≤ k → (if t then 0 else suc i) ≤ suc k
+      go true i k h = omega arith
+      go false i k h = omega arith
+
+  -- all pass just where the first that does not is behind the last
+  pub all-by-index : (xs : List A) → all p xs ≡ eqb (find-index (λ x. not (p x)) xs) (length xs)
+  all-by-index [] = refl
+  all-by-index (x ∷ xs) = go (p x) (all p xs) _ _ (all-by-index xs)
+    where
+      go : (t rest : Bool) (i k : ℕ) → rest ≡ eqb i k → t && rest ≡ eqb (if not t then 0 else suc i) (suc k)
+      go true rest i k e = e ∙ sym (eqb·suc-suc i k)
+      go false rest i k e = sym (eqb·zero-suc k)
+
+  -- where one passes, so does the one at the index, and none stands before it that does
+  pub find-index-first :
+      (d : A) (xs : List A) (k : ℕ) → k < length xs → p (getD xs k d) ≡ true →
+      (find-index p xs ≤ k) × (p (getD xs (find-index p xs) d) ≡ true)
+  find-index-first d [] k h e = absurd (omega arith)
+  find-index-first d (x ∷ xs) k h e = go (p x) refl k h e (find-index-first d xs)
+    where
+      go :
+          (t : Bool) → p x ≡ t → (k : ℕ) → k < length (x ∷ xs) → p (getD (x ∷ xs) k d) ≡ true →
+          ((k : ℕ) → k < length xs → p (getD xs k d) ≡ true → (find-index p xs ≤ k) × (p (getD xs (find-index p xs) d) ≡ true)) →
+          let i = if t then 0 else suc (find-index p xs) in
+          (i ≤ k) × (p (getD (x ∷ xs) i d) ≡ true)
+      go true passes k h e later = (omega arith, passes)
+      go false fails zero h e later = absurd (true≢false (sym e ∙ fails))
+      go false fails (suc k) h e later = let found = later k (omega arith) e in (omega (arith, found .0), found .1)
 
 -- ## Filter
 

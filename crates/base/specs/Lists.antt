@@ -1,4 +1,4 @@
--- Lists: filter, count, all, range, flat map, equality. (The library's filter and count go by decisions and not by tests.)
+-- Lists: filter, count, all, find index, range, flat map, equality. (The library's filter and count go by decisions and not by tests.)
 -- Assumes nothing.
 use Prim.Native.Nat.{ℕ, zero, suc}
 use mathlib.Core.Bool.{Bool, true, false, _&&_}
@@ -17,6 +17,11 @@ count p xs = length (filter p xs)
 abbrev pub all {ℓ} : {A : Type ℓ} → (A → Bool) → List A → Bool
 all p [] = true
 all p (x ∷ xs) = p x && all p xs
+
+-- the index of the first that passes a test, and the length where none does
+abbrev pub find-index {ℓ} : {A : Type ℓ} → (A → Bool) → List A → ℕ
+find-index p [] = 0
+find-index p (x ∷ xs) = if p x then 0 else suc (find-index p xs)
 
 -- as many numbers as said, from the first on
 abbrev pub range : ℕ → ℕ → List ℕ

@@ -1,15 +1,16 @@
 -- Open and add: what each replies and leaves, as definitions of what it was given. The contracts cite these.
 -- Assumes nothing.
-use Prim.Native.Nat.{ℕ, _+_, _-_, _≤_}
+use Prim.Native.Nat.{ℕ, _+_}
 use mathlib.Core.Path.{_≡_}
-use mathlib.Core.Bool.{false, not}
+use mathlib.Core.Bool.{not}
 use mathlib.Core.List.{List, [], _∷_}
 use lib.Dec.{ltb}
-use lib.ListN.{length, getD, set}
+use lib.ListN.{length, set}
 use lib.Seq.{sets}
 use Rattle.eventlog.specs.declared.OpenAnswer.{OpenAnswer}
 use Rattle.eventlog.specs.declared.AddAnswer.{AddAnswer}
 use Rattle.eventlog.specs.declared.Room.{Room}
+use Rattle.base.specs.Lists.{find-index}
 use Rattle.base.specs.Checks.{Check, _refuses_with_, Reply, gives, refused, reply, when-passed}
 use Rattle.eventlog.specs.Store.{longest-trace, declarable, Memory, last-end, sound, all-below, room, full, lacks}
 
@@ -32,21 +33,21 @@ pub record Opens (n : ℕ) (answer : OpenAnswer) : Type 0 where
 
 -- ## Add
 
--- the place, from 1, of an undeclared activity
-abbrev pub Undeclared : ℕ → List ℕ → ℕ → Type 0
-Undeclared n trace place = (1 ≤ place) × (place ≤ length trace) × (n ≤ getD trace (place - 1) 0)
+-- how many activities stand before the first that is not declared: all of them where each is
+unfoldable pub declared-front : ℕ → List ℕ → ℕ
+declared-front n trace = find-index (λ x. not (ltb x n)) trace
 
--- the checks of add, where this room is left
-abbrev pub add-checks : ℕ → Room → List ℕ → List Check
-add-checks place r trace =
-    (not (all-below (r .activities) trace) refuses 6 with place) ∷
+-- the checks of add, where this room is left; 6 carries the place, from 1, of the first step that is not below N
+abbrev pub add-checks : Room → List ℕ → List Check
+add-checks r trace =
+    (not (all-below (r .activities) trace) refuses 6 with (declared-front (r .activities) trace + 1)) ∷
     (ltb longest-trace (length trace) refuses 7 with 0) ∷
     (full r refuses 8 with 0) ∷
     (lacks r (length trace) refuses 9 with 0) ∷
     []
 
-abbrev pub checks-of-add : ℕ → Memory → List ℕ → List Check
-checks-of-add place m trace = unsound m ∷ add-checks place (room m) trace
+abbrev pub checks-of-add : Memory → List ℕ → List Check
+checks-of-add m trace = unsound m ∷ add-checks (room m) trace
 
 -- the memory with the trace appended
 abbrev pub with-trace : Memory → List ℕ → Memory
@@ -61,13 +62,7 @@ abbrev pub add-said : AddAnswer → Reply
 add-said AddAnswer.Added = gives []
 add-said (AddAnswer.Refused refusal) = refused (refusal .number) (refusal .detail)
 
--- add answers so in memory m: only the place in refusal 6 is free
-pub record Answers (m : Memory) (trace : List ℕ) (answer : AddAnswer) : Type 0 where
-  pub place : ℕ
-  pub free : all-below (m .store .activities) trace ≡ false → Undeclared (m .store .activities) trace place
-  pub says : add-said answer ≡ reply (checks-of-add place m trace) []
-
 -- `add` in memory m answers so, and leaves this memory
 pub record Adds (m : Memory) (trace : List ℕ) (answer : AddAnswer) (after : Memory) : Type 0 where
-  pub answers : Answers m trace answer
-  pub leaves : after ≡ when-passed (checks-of-add (answers .place) m trace) (with-trace m trace) m
+  pub says : add-said answer ≡ reply (checks-of-add m trace) []
+  pub leaves : after ≡ when-passed (checks-of-add m trace) (with-trace m trace) m

@@ -1,11 +1,12 @@
 // The store of traces (document 01: of runs): its record, whether it is sound, its room, open and add.
 ghost use mathlib.Core.Path.{_≡_};
-ghost use mathlib.Core.Bool.{true};
-ghost use Prim.Native.Nat.{_+_, _<_, _≤_};
-ghost use lib.ListN.{length, getD, take};
+ghost use mathlib.Core.List.{[]};
+ghost use Prim.Native.Nat.{_+_, _≤_};
+ghost use lib.ListN.{length};
 ghost use lib.Seq.{sets};
-ghost use Rattle.eventlog.specs.Calls.{Adds, Answers, Opens, with-trace};
-ghost use Rattle.eventlog.specs.Store.{lent, last-from, last-kept, rising, all-below, sound, room, declarable as declarable-test, full as full-test};
+ghost use Rattle.base.specs.Checks.{gives, reply};
+ghost use Rattle.eventlog.specs.Calls.{Adds, add-said, checks-of-add, declared-front, Opens, with-trace};
+ghost use Rattle.eventlog.specs.Store.{lent, last-from, last-kept, rising, sound, room, declarable as declarable-test, full as full-test};
 
 // The record: how many activities (document 01: steps, numbers below N) are declared, and how many traces are kept.
 pub struct Store {
@@ -126,9 +127,7 @@ fn ends_rise(ends: &[u32]) -> bool
 
 // How many events stand before the first undeclared one: all of them where there is none.
 fn declared_front(n: u32, events: &[u8]) -> usize
-    ensures { λ r. ⌜ r ≤ length (now (events .entry)) ⌝ }
-    ensures { λ r. ⌜ all-below n (take r (now (events .entry))) ≡ true ⌝ }
-    ensures { λ r. ⌜ (r < length (now (events .entry)) → n ≤ getD (now (events .entry)) r 0) ⌝ }
+    ensures { λ r. ⌜ r ≡ declared-front n (now (events .entry)) ⌝ }
 {
     let mut i = 0;
     while i < events.len() {
@@ -191,7 +190,7 @@ fn refused(number: u8, detail: usize) -> AddAnswer
 
 // What add answers. Nothing is written before this is known.
 fn add_answer(store: Store, events: &[u8], ends: &[u32], trace: &[u8]) -> AddAnswer
-    ensures { λ r. ⌜ Answers (lent store (events .entry) (ends .entry)) (now (trace .entry)) r ⌝ }
+    ensures { λ r. ⌜ add-said r ≡ reply (checks-of-add (lent store (events .entry) (ends .entry)) (now (trace .entry))) [] ⌝ }
 {
     if !is_sound(store, events, ends) {
         return refused(NOT_SOUND, 0);
@@ -226,7 +225,7 @@ fn copy_in(events: &mut [u8], at: usize, trace: &[u8])
 
 // Appends the events and the end of a trace that add accepts.
 fn append(store: Store, events: &mut [u8], ends: &mut [u32], trace: &[u8]) -> Store
-    requires { ⌜ Answers (lent store events ends) (now trace) AddAnswer.Added ⌝ }
+    requires { ⌜ gives [] ≡ reply (checks-of-add (lent store events ends) (now trace)) [] ⌝ }
     ensures { λ r. ⌜ lent r (events .exit) (ends .exit) ≡ with-trace (lent store (events .entry) (ends .entry)) (now (trace .entry)) ⌝ }
 {
     let last = last_end(store, ends) as usize;

@@ -2,27 +2,25 @@
 -- Assumes nothing.
 use Prim.Native.Nat.{ℕ}
 use mathlib.Core.Path.{_≡_, refl, sym, ap, subst, subst₂, _∙_}
-use mathlib.Core.Bool.{false}
 use mathlib.Core.List.{List, [], _∷_, _++_}
 use borrow.Author.Tests.{not-false}
 use lib.ListN.{length, length-append}
-use Rattle.base.specs.Checks.{reply, when-passed}
+use Rattle.base.specs.Checks.{Check, Reply, gives, refused, reply, when-passed}
 use Rattle.base.proofs.Checks.{none-fail, given-values, given-new, refused-old}
 use Rattle.eventlog.specs.declared.Room.{Room}
 use Rattle.eventlog.specs.declared.OpenAnswer.{OpenAnswer}
-use Rattle.eventlog.specs.declared.AddAnswer.{AddAnswer}
-use Rattle.eventlog.specs.Store.{declarable, Memory, memory, last-end, all-below, room, after-traces}
-use Rattle.eventlog.specs.Calls.{Opens, open-checks, Undeclared, add-checks, checks-of-add, Adds}
+use Rattle.eventlog.specs.Store.{declarable, Memory, memory, last-end, room, after-traces}
+use Rattle.eventlog.specs.Calls.{unsound, Opens, open-checks, add-checks, add-said}
 use Rattle.eventlog.proofs.Laws.{total-append, fresh, fresh-kept, fresh-sound}
-use Rattle.eventlog.proofs.Adding.{Grown, after-added, after-refused}
-use Rattle.columns.specs.declared.ReadAnswer.{ReadAnswer}
+use Rattle.eventlog.proofs.Adding.{Grown}
+use Rattle.eventlog.proofs.Adding as adding
 use Rattle.columns.specs.Log.{log-checks, spelled}
-use Rattle.columns.specs.Calls.{checks-of-read, Reads}
+use Rattle.columns.specs.Calls.{read-said}
 use Rattle.columns.proofs.ReadContract as reading
 use Rattle.discovery.specs.Question.{Question, asked}
 use Rattle.discovery.specs.Calls.{find-checks, find-values, with-list}
 use Rattle.history.specs.Ledger.{Call, open-for, add, read, find, Shown, only, Ledger, first-ledger, room-beside, question, after, shows, with-all}
-use Rattle.history.specs.Histories.{Called, Fresh, opened, Free, Keeps}
+use Rattle.history.specs.Histories.{Called, Fresh, opened, Keeps}
 use Rattle.history.proofs.Replies.{sound-reply, sound-passed}
 
 -- a fresh store keeps nothing
@@ -39,7 +37,7 @@ fresh-keeps m opens =
 
 -- what a call is to show beside a ledger, and the ledger's traces are to be kept after it
 pub record Follows (space : Room) (l : Ledger) (c : Call) (s : Shown) (m′ : Memory) : Type 0 where
-  pub agrees : (place : ℕ) × Free (l .activities) c place × (s ≡ shows place space l c)
+  pub agrees : s ≡ shows space l c
   pub keeps : Keeps space (after space l c) m′
 
 module _ (space : Room) (l : Ledger) (m : Memory) (k : Keeps space l m) where
@@ -70,11 +68,11 @@ module _ (space : Room) (l : Ledger) (m : Memory) (k : Keeps space l m) where
   pub open-follows : (n : ℕ) (s : Shown) (m′ : Memory) → Called m (open-for n) s m′ → Follows space l (open-for n) s m′
   open-follows n s m′ (answer, opens, shown, left) =
       record {
-        agrees = (0, tt, shown ∙ ap only (opens .says));
+        agrees = shown ∙ ap only (opens .says);
         keeps = subst (λ (m′ : Memory). Keeps space (after space l (open-for n)) m′) (sym left) (open-keeps n answer opens);
       }
 
-  -- ## Traces more
+  -- ## Traces more: add and read
 
   room-grown : (traces : List (List ℕ)) → after-traces (room-beside space l) traces ≡ room-beside space (with-all l traces)
   room-grown traces =
@@ -95,61 +93,46 @@ module _ (space : Room) (l : Ledger) (m : Memory) (k : Keeps space l m) where
         same-room = g .room-left ∙ ap (λ r. after-traces r traces) (k .same-room) ∙ room-grown traces;
       }
 
-  -- ## Add
+  -- a call that is tested by the room that is left
+  module _ (checks : Room → List Check) (values : List ℕ) where
+    beside : reply (unsound m ∷ checks (room m)) values ≡ reply (checks (room-beside space l)) values
+    beside = sound-reply m (k .is-sound) (checks (room m)) values ∙ ap (λ r. reply (checks r) values) (k .same-room)
 
-  module _ (trace : List ℕ) where
-    add-reply : (place : ℕ) → reply (checks-of-add place m trace) [] ≡ reply (add-checks place (room-beside space l) trace) []
-    add-reply place =
-        sound-reply m (k .is-sound) (add-checks place (room m) trace) [] ∙ ap (λ r. reply (add-checks place r trace) []) (k .same-room)
-
-    add-keeps : (answer : AddAnswer) (m′ : Memory) → Adds m trace answer m′ → Keeps space (after space l (add trace)) m′
-    add-keeps AddAnswer.Added m′ adds =
-        let place = adds .answers .place in
-        keeps-at (with-all l (trace ∷ [])) m′
-        (given-new (add-checks place (room-beside space l) trace) [] [] (sym (adds .answers .says ∙ add-reply place)) _ l) refl
-        (grown-keeps (trace ∷ []) m′ (after-added m trace AddAnswer.Added m′ adds refl))
-    add-keeps (AddAnswer.Refused refusal) m′ adds =
-        let place = adds .answers .place in
-        keeps-at l m (refused-old (add-checks place (room-beside space l) trace) [] _ _ (sym (adds .answers .says ∙ add-reply place)) _ l)
-        (after-refused m trace (AddAnswer.Refused refusal) m′ adds _ _ refl) k
+    -- it keeps these traces more where it is accepted, and else what there was
+    grows :
+        (traces : List (List ℕ)) (said : Reply) (m′ : Memory) → said ≡ reply (unsound m ∷ checks (room m)) values →
+        ((given : List ℕ) → said ≡ gives given → Grown m traces m′) → ((number detail : ℕ) → said ≡ refused number detail → m′ ≡ m) →
+        Keeps space (when-passed (checks (room-beside space l)) (with-all l traces) l) m′
+    grows traces (gives given) m′ says added same =
+        keeps-at (with-all l traces) m′ (given-new (checks (room-beside space l)) values given (sym (says ∙ beside)) _ l) refl
+        (grown-keeps traces m′ (added given refl))
+    grows traces (refused number detail) m′ says added same =
+        keeps-at l m (refused-old (checks (room-beside space l)) values number detail (sym (says ∙ beside)) _ l) (same number detail refl) k
 
   pub add-follows : (trace : List ℕ) (s : Shown) (m′ : Memory) → Called m (add trace) s m′ → Follows space l (add trace) s m′
   add-follows trace s m′ (answer, adds, shown) =
-      let a = adds .answers in
+      let checks : Room → List Check = λ r. add-checks r trace in
       record {
-        agrees = (
-          a .place,
-          subst (λ (n : ℕ). all-below n trace ≡ false → Undeclared n trace (a .place)) (ap (λ r. r .activities) (k .same-room)) (a .free),
-          shown ∙ ap only (a .says ∙ add-reply trace (a .place)),
-        );
-        keeps = add-keeps trace answer m′ adds;
+        agrees = shown ∙ ap only (adds .says ∙ beside checks []);
+        keeps =
+            grows checks [] (trace ∷ []) (add-said answer) m′ (adds .says)
+            (adding.after-added m trace answer m′ adds) (adding.after-refused m trace answer m′ adds);
       }
-
-  -- ## Read
-
-  module _ (log : List ℕ) where
-    abbrev values : List ℕ
-    values = length (spelled log) ∷ []
-
-    read-reply : reply (checks-of-read m log) values ≡ reply (log-checks (room-beside space l) log) values
-    read-reply = sound-reply m (k .is-sound) (log-checks (room m) log) values ∙ ap (λ r. reply (log-checks r log) values) (k .same-room)
-
-    read-keeps : (answer : ReadAnswer) (m′ : Memory) → Reads m log answer m′ → Keeps space (after space l (read log)) m′
-    read-keeps (ReadAnswer.Added traces) m′ reads =
-        keeps-at (with-all l (spelled log)) m′
-        (given-new (log-checks (room-beside space l) log) values _ (sym (reads .says ∙ read-reply)) _ l) refl
-        (grown-keeps (spelled log) m′ (reading.after-added m log (ReadAnswer.Added traces) m′ reads _ refl))
-    read-keeps (ReadAnswer.Refused refusal) m′ reads =
-        keeps-at l m (refused-old (log-checks (room-beside space l) log) values _ _ (sym (reads .says ∙ read-reply)) _ l)
-        (reading.after-refused m log (ReadAnswer.Refused refusal) m′ reads _ _ refl) k
 
   pub read-follows : (log : List ℕ) (s : Shown) (m′ : Memory) → Called m (read log) s m′ → Follows space l (read log) s m′
   read-follows log s m′ (answer, reads, shown) =
-      record { agrees = (0, tt, shown ∙ ap only (reads .says ∙ read-reply log)); keeps = read-keeps log answer m′ reads }
+      let checks : Room → List Check = λ r. log-checks r log in
+      let values : List ℕ = length (spelled log) ∷ [] in
+      record {
+        agrees = shown ∙ ap only (reads .says ∙ beside checks values);
+        keeps =
+            grows checks values (spelled log) (read-said answer) m′ (reads .says)
+            (reading.after-added m log answer m′ reads) (reading.after-refused m log answer m′ reads);
+      }
 
   -- ## Find
 
-  pub find-shows : (threshold : ℕ) (list : List ℕ) (s : Shown) (m′ : Memory) → Called m (find threshold list) s m′ → s ≡ shows 0 space l (find threshold list)
+  pub find-shows : (threshold : ℕ) (list : List ℕ) (s : Shown) (m′ : Memory) → Called m (find threshold list) s m′ → s ≡ shows space l (find threshold list)
   find-shows threshold list s m′ (answer, finds, said, left) =
       let q = asked m threshold in
       let same : q ≡ question l threshold = λ i. record { activities = k .same-room i .activities; traces = k .traces i; threshold = threshold } in
@@ -164,6 +147,6 @@ module _ (space : Room) (l : Ledger) (m : Memory) (k : Keeps space l m) where
   pub find-follows : (threshold : ℕ) (list : List ℕ) (s : Shown) (m′ : Memory) → Called m (find threshold list) s m′ → Follows space l (find threshold list) s m′
   find-follows threshold list s m′ called =
       record {
-        agrees = (0, tt, find-shows threshold list s m′ called);
+        agrees = find-shows threshold list s m′ called;
         keeps = subst (λ (m′ : Memory). Keeps space l m′) (sym (called .3)) k;
       }

@@ -1,7 +1,7 @@
 -- Demand 3: one theorem about all histories. Each call is known by its contract's record alone.
 -- Assumes nothing.
 use Prim.Native.Nat.{ℕ, _*_}
-use mathlib.Core.Path.{_≡_, refl, sym, ap, subst, transport, _∙_}
+use mathlib.Core.Path.{_≡_, refl, sym, ap, ap₂, subst, transport, _∙_}
 use mathlib.Core.List.{List, [], _∷_, _++_}
 use lib.ListN.{length, take, getElem?}
 use Rattle.base.specs.Checks.{gives}
@@ -13,8 +13,8 @@ use Rattle.declare.specs.Constraints.{Exactly}
 use Rattle.discovery.specs.Claims.{AlikeQuestions}
 use Rattle.declare.proofs.constraints.Members.{exactly-one}
 use Rattle.discovery.proofs.Orderless.{trace-count-alike, is-listed-alike, survives-alike, layout-alike}
-use Rattle.history.specs.Ledger.{Call, open-for, add, read, find, Shown, Ledger, first-ledger, after}
-use Rattle.history.specs.Histories.{Called, Fresh, History, after-all, ledger-after, Agrees, Never-1, Keeps, FindIn, question-of, Right, Accepted, EqualFinds, FindAt, Demand3}
+use Rattle.history.specs.Ledger.{Call, open-for, add, read, find, Shown, Ledger, first-ledger, after, shows}
+use Rattle.history.specs.Histories.{Called, Fresh, History, after-all, ledger-after, shows-all, ledger-shows, Never-1, Keeps, FindIn, question-of, Right, Accepted, EqualFinds, FindAt, Demand3}
 use Rattle.history.proofs.Replies.{ledger-never-1}
 use Rattle.history.proofs.CallSteps.{fresh-keeps, Follows, open-follows, add-follows, read-follows, find-shows, find-follows}
 use Rattle.history.proofs.Finds.{shows-right, right-gives}
@@ -30,26 +30,23 @@ follows space l m k (find threshold list) = find-follows space l m k threshold l
 
 history-follows :
     (space : Room) (l : Ledger) (m last : Memory) → Keeps space l m → (cs : List Call) (ss : List Shown) → History m cs ss last →
-    Agrees space l cs ss × Keeps space (after-all space l cs) last
-history-follows space l m last k [] [] h = (tt, subst (λ (m′ : Memory). Keeps space l m′) (sym h) k)
+    (ss ≡ shows-all space l cs) × Keeps space (after-all space l cs) last
+history-follows space l m last k [] [] h = (refl, subst (λ (m′ : Memory). Keeps space l m′) (sym h) k)
 history-follows space l m last k [] (s ∷ ss) h = absurd h
 history-follows space l m last k (c ∷ cs) [] h = absurd h
 history-follows space l m last k (c ∷ cs) (s ∷ ss) (m′, called, h) =
     let now = follows space l m k c s m′ called in
     let later = history-follows space (after space l c) m′ last (now .keeps) cs ss h in
-    ((now .agrees, later .0), later .1)
+    (ap₂ _∷_ (now .agrees) (later .0), later .1)
 
 from-fresh :
     (m last : Memory) (cs : List Call) (ss : List Shown) → Fresh m → History m cs ss last →
-    Agrees (room m) (first-ledger (room m)) cs ss × Keeps (room m) (ledger-after m cs) last
+    (ss ≡ ledger-shows m cs) × Keeps (room m) (ledger-after m cs) last
 from-fresh m last cs ss fresh = history-follows (room m) (first-ledger (room m)) m last (fresh-keeps m fresh) cs ss
 
-agrees-never-1 : (space : Room) (l : Ledger) (cs : List Call) (ss : List Shown) → Agrees space l cs ss → Never-1 ss
-agrees-never-1 space l [] [] a = tt
-agrees-never-1 space l [] (s ∷ ss) a = absurd a
-agrees-never-1 space l (c ∷ cs) [] a = absurd a
-agrees-never-1 space l (c ∷ cs) (s ∷ ss) ((place, free, shown), later) =
-    (λ detail e. ledger-never-1 place space l c detail (ap (λ s. s .said) (sym shown) ∙ e), agrees-never-1 space (after space l c) cs ss later)
+ledger-never-1-all : (space : Room) (l : Ledger) (cs : List Call) → Never-1 (shows-all space l cs)
+ledger-never-1-all space l [] = tt
+ledger-never-1-all space l (c ∷ cs) = (ledger-never-1 space l c, ledger-never-1-all space (after space l c) cs)
 
 -- ## Finds
 
@@ -151,7 +148,9 @@ pub demand-3 : Demand3
 demand-3 =
     record {
       agrees = λ m last cs ss fresh h. from-fresh m last cs ss fresh h .0;
-      never-1 = λ m last cs ss fresh h. agrees-never-1 (room m) (first-ledger (room m)) cs ss (from-fresh m last cs ss fresh h .0);
+      never-1 =
+          λ m last cs ss fresh h.
+          subst Never-1 (sym (from-fresh m last cs ss fresh h .0)) (ledger-never-1-all (room m) (first-ledger (room m)) cs);
       keeps = λ m last cs ss fresh h. from-fresh m last cs ss fresh h .1;
       every-find = find-at;
       right = found-right;

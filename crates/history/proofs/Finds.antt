@@ -26,7 +26,7 @@ laid-out q cs list fits =
     sets-eq (layout q cs) list 0 (omega arith) ∙ ap (λ k. layout q cs ++ drop k list) same
 
 pub shows-right :
-    (space : Room) (l : Ledger) (threshold : ℕ) (list : List ℕ) → Right (question l threshold) list (shows 0 space l (find threshold list))
+    (space : Room) (l : Ledger) (threshold : ℕ) (list : List ℕ) → Right (question l threshold) list (shows space l (find threshold list))
 shows-right space l threshold list =
     let q = question l threshold in
     let cs = listed q in

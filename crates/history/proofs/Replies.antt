@@ -40,11 +40,11 @@ log-above space log = lines-above space nothing-read 1 (lines log)
 never-above : (checks : List Check) (values : List ℕ) (detail : ℕ) → Each Above-1 checks → reply checks values ≡ refused 1 detail → ⊥
 never-above checks values detail above e = omega (arith, refused-each Above-1 checks values 1 detail above e)
 
-pub ledger-never-1 : (place : ℕ) (space : Room) (l : Ledger) (c : Call) (detail : ℕ) → shows place space l c .said ≡ refused 1 detail → ⊥
-ledger-never-1 place space l (open-for n) detail = never-above (open-checks n) _ detail (omega arith, λ _. tt)
-ledger-never-1 place space l (add trace) detail =
-    never-above (add-checks place (room-beside space l) trace) _ detail
+pub ledger-never-1 : (space : Room) (l : Ledger) (c : Call) (detail : ℕ) → shows space l c .said ≡ refused 1 detail → ⊥
+ledger-never-1 space l (open-for n) detail = never-above (open-checks n) _ detail (omega arith, λ _. tt)
+ledger-never-1 space l (add trace) detail =
+    never-above (add-checks (room-beside space l) trace) _ detail
     (omega arith, λ _. (omega arith, λ _. (omega arith, λ _. (omega arith, λ _. tt))))
-ledger-never-1 place space l (read log) detail = never-above (log-checks (room-beside space l) log) _ detail (log-above (room-beside space l) log)
-ledger-never-1 place space l (find threshold list) detail =
+ledger-never-1 space l (read log) detail = never-above (log-checks (room-beside space l) log) _ detail (log-above (room-beside space l) log)
+ledger-never-1 space l (find threshold list) detail =
     never-above (find-checks (question l threshold) list) _ detail (omega arith, λ _. (omega arith, λ _. (omega arith, λ _. tt)))

@@ -2,7 +2,7 @@
 -- Assumes nothing.
 use Prim.Native.Nat.{ℕ, _+_, _*_, _≤_}
 use mathlib.Core.Path.{_≡_}
-use mathlib.Core.Bool.{true, false}
+use mathlib.Core.Bool.{true}
 use mathlib.Core.List.{List, [], _∷_, _++_}
 use mathlib.Core.Option.{some}
 use lib.ListN.{length, take, drop, getElem?}
@@ -13,8 +13,8 @@ use Rattle.eventlog.specs.declared.AddAnswer.{AddAnswer}
 use Rattle.columns.specs.declared.ReadAnswer.{ReadAnswer}
 use Rattle.discovery.specs.declared.FindAnswer.{FindAnswer}
 use Rattle.declare.specs.declared.constraints.Constraint.{Constraint}
-use Rattle.eventlog.specs.Store.{Memory, all-below, sound, kept, room}
-use Rattle.eventlog.specs.Calls.{Opens, open-said, Undeclared, Adds, add-said}
+use Rattle.eventlog.specs.Store.{Memory, sound, kept, room}
+use Rattle.eventlog.specs.Calls.{Opens, open-said, Adds, add-said}
 use Rattle.columns.specs.Calls.{Reads, read-said}
 use Rattle.discovery.specs.Question.{Question, trace-count, is-listed, survives, numbers, layout}
 use Rattle.declare.specs.Constraints.{Exactly}
@@ -60,20 +60,14 @@ after-all space l (c ∷ cs) = after-all space (after space l c) cs
 abbrev pub ledger-after : Memory → List Call → Ledger
 ledger-after m cs = after-all (room m) (first-ledger (room m)) cs
 
--- the place is that of an undeclared activity, where the call is an add with one
-abbrev pub Free : ℕ → Call → ℕ → Type 0
-Free n (open-for m) place = Unit {0}
-Free n (add trace) place = all-below n trace ≡ false → Undeclared n trace place
-Free n (read log) place = Unit {0}
-Free n (find threshold list) place = Unit {0}
+-- what the calls show, one after the other
+abbrev pub shows-all : Room → Ledger → List Call → List Shown
+shows-all space l [] = []
+shows-all space l (c ∷ cs) = shows space l c ∷ shows-all space (after space l c) cs
 
--- each call shows what the ledger says
-abbrev pub Agrees : Room → Ledger → List Call → List Shown → Type 0
-Agrees space l [] [] = Unit {0}
-Agrees space l [] (s ∷ ss) = ⊥
-Agrees space l (c ∷ cs) [] = ⊥
-Agrees space l (c ∷ cs) (s ∷ ss) =
-    ((place : ℕ) × Free (l .activities) c place × (s ≡ shows place space l c)) × Agrees space (after space l c) cs ss
+-- what the ledger that is fed a fresh store's room says of the calls
+abbrev pub ledger-shows : Memory → List Call → List Shown
+ledger-shows m cs = shows-all (room m) (first-ledger (room m)) cs
 
 -- no call is refused under number 1
 abbrev pub Never-1 : List Shown → Type 0
@@ -144,10 +138,8 @@ pub record FindAt (m : Memory) (before : List Call) (threshold : ℕ) (list : Li
 
 -- Demand 3: one claim about all histories.
 pub record Demand3 : Type 0 where
-  -- every call is accepted, or refused under the same number and detail, as in the ledger, but for the free place in refusal 6 of add
-  pub agrees :
-      (m last : Memory) (cs : List Call) (ss : List Shown) → Fresh m → History m cs ss last →
-      Agrees (room m) (first-ledger (room m)) cs ss
+  -- every call is accepted, or refused under the same number and detail, as in the ledger
+  pub agrees : (m last : Memory) (cs : List Call) (ss : List Shown) → Fresh m → History m cs ss last → ss ≡ ledger-shows m cs
   -- 1 never comes
   pub never-1 : (m last : Memory) (cs : List Call) (ss : List Shown) → Fresh m → History m cs ss last → Never-1 ss
   -- the ledger's traces are the kept ones

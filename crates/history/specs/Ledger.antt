@@ -55,15 +55,15 @@ with-all l traces = record { activities = l .activities; traces = l .traces ++ t
 -- the ledger after a call
 abbrev pub after : Room → Ledger → Call → Ledger
 after space l (open-for n) = when-passed (open-checks n) (record { activities = n; traces = [] }) l
-after space l (add trace) = when-passed (add-checks 0 (room-beside space l) trace) (with-all l (trace ∷ [])) l
+after space l (add trace) = when-passed (add-checks (room-beside space l) trace) (with-all l (trace ∷ [])) l
 after space l (read log) = when-passed (log-checks (room-beside space l) log) (with-all l (spelled log)) l
 after space l (find threshold list) = l
 
--- what a call shows, `place` standing for the place that is free in refusal 6 of add
-abbrev pub shows : ℕ → Room → Ledger → Call → Shown
-shows place space l (open-for n) = only (reply (open-checks n) (n ∷ 0 ∷ []))
-shows place space l (add trace) = only (reply (add-checks place (room-beside space l) trace) [])
-shows place space l (read log) = only (reply (log-checks (room-beside space l) log) (length (spelled log) ∷ []))
-shows place space l (find threshold list) =
+-- what a call shows
+abbrev pub shows : Room → Ledger → Call → Shown
+shows space l (open-for n) = only (reply (open-checks n) (n ∷ 0 ∷ []))
+shows space l (add trace) = only (reply (add-checks (room-beside space l) trace) [])
+shows space l (read log) = only (reply (log-checks (room-beside space l) log) (length (spelled log) ∷ []))
+shows space l (find threshold list) =
     let q = question l threshold in
     record { said = reply (find-checks q list) (find-values q); list = when-passed (find-checks q list) (with-list q list) list }

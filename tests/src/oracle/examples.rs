@@ -90,6 +90,16 @@ fn a_trace_of_4096_is_taken_and_4097_refused() {
 }
 
 #[test]
+fn an_undeclared_step_is_told_by_its_lowest_place() {
+    let mut ledger = Ledger::fresh(2, 20, 10);
+    assert_eq!(ledger.add(&[2, 0, 2]), Err(refusal(6, 1)));
+    assert_eq!(ledger.add(&[0, 2, 1, 3]), Err(refusal(6, 2)));
+    assert_eq!(ledger.add(&[0, 1, 255]), Err(refusal(6, 3)));
+    assert_eq!(ledger.read(b"     1  0\n     1  2\n     2  3\n"), Err(refusal(6, 2)));
+    assert!(ledger.traces.is_empty());
+}
+
+#[test]
 fn fourteen_n_n_less_six_n_constraints() {
     for n in 1..=32 {
         assert_eq!(constraints(n).len() as u32, 14 * n * n - 6 * n);

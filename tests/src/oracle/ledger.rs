@@ -55,10 +55,11 @@ impl Ledger {
         Ok(())
     }
 
-    /// Refusal 6 comes with detail 0 here: its place is free, and `is_undeclared` tells whether one will do.
+    /// Refusal 6 carries the lowest place, from 1, of an undeclared step.
     pub fn add(&mut self, trace: &[u8]) -> Result<(), Refusal> {
-        if trace.iter().any(|&x| x as u32 >= self.n) {
-            return Err(refusal(6, 0));
+        let undeclared = |&place: &usize| trace[place - 1] as u32 >= self.n;
+        if let Some(lowest) = (1..=trace.len()).filter(undeclared).min() {
+            return Err(refusal(6, lowest));
         }
         if trace.len() > LONGEST_TRACE {
             return Err(refusal(7, 0));
@@ -71,11 +72,6 @@ impl Ledger {
         }
         self.traces.push(trace.to_vec());
         Ok(())
-    }
-
-    /// Whether the step at this place, from 1, is undeclared.
-    pub fn is_undeclared(&self, trace: &[u8], place: u64) -> bool {
-        place >= 1 && place <= trace.len() as u64 && trace[place as usize - 1] as u32 >= self.n
     }
 
     /// The number of traces added.

@@ -63,13 +63,8 @@ impl Calls for Model {
         opens(n).map(|()| Record { activities: n, traces: 0 })
     }
 
-    /// Refusal 6 names the first undeclared step here.
     fn add(&mut self, memory: &mut Memory, trace: &[u8]) -> Result<(), Refusal> {
-        let mut said = Model::grow(memory, |ledger| ledger.add(trace));
-        if let Err(Refusal { number: 6, detail }) = &mut said {
-            *detail = trace.iter().position(|&x| x as u32 >= memory.record.activities).unwrap() as u64 + 1;
-        }
-        said
+        Model::grow(memory, |ledger| ledger.add(trace))
     }
 
     fn read(&mut self, memory: &mut Memory, log: &[u8]) -> Result<u32, Refusal> {

@@ -1,5 +1,5 @@
-//! Document 01 in plain Rust: every rule by quantifiers over places, without automata, and written from that text alone. It is
-//! what the proved code is compared with, so nothing in it is taken from there.
+//! Document 01, with the requests of document 02 that have landed, in plain Rust: every rule by quantifiers over places, without
+//! automata, and written from that text alone. It is what the proved code is compared with, so nothing in it is taken from there.
 
 pub mod columns;
 pub mod finder;

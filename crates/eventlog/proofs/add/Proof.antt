@@ -1,5 +1,5 @@
 -- `eventlog::add` meets its contract: each arm from what the answer was. Assumes nothing.
-use Rattle.eventlog.proofs.Adding.{answers-added, adds-refused, adds-added}
+use Rattle.eventlog.proofs.Adding.{adds-refused, adds-added}
 use borrow.Author.Needs.{needs}
 use Rattle.eventlog.proofs.add.Statement.{statement}
 use Rattle.eventlog.proofs.add.Tie as tie
@@ -16,7 +16,7 @@ enum-told-2 c = search needs
 append-requires : tie.Need-append-requires
 append-requires c κs =
     let told = c .before .before in
-    answers-added _ _ _ (told .before .before .add-answer .ensures) (told .enum-told2 .given .1)
+    rw (told .enum-told2 .given .1) at (told .before .before .add-answer .ensures)
 
 same-length : tie.Need-same-length
 same-length c = search needs

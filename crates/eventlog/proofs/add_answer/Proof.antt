@@ -6,13 +6,11 @@ use mathlib.Core.Bool.{true}
 use mathlib.Core.List.{List, []}
 use borrow.Author.Tests.{lt-ltb, le-ltb, not-true, not-false}
 use lib.ListN.{length, drop}
-use lib.Seq.{take-all}
-use Rattle.base.specs.Checks.{Check, reply}
+use Rattle.base.specs.Checks.{Check, refused, reply}
 use Rattle.eventlog.specs.Store.{Memory, memory, sound, last-end, all-below, room, full}
 use Rattle.eventlog.specs.Calls.{checks-of-add, add-said}
-use Rattle.eventlog.proofs.Adding.{some-place, found-place, declared-answers}
 use Rattle.eventlog.proofs.Laws.{sound-facts}
-use Rattle.eventlog.proofs.Walks.{not-all-below}
+use Rattle.eventlog.proofs.Walks.{declared-yes, declared-no}
 use borrow.Author.Needs.{needs}
 use Rattle.eventlog.proofs.add_answer.Statement.{statement}
 use Rattle.eventlog.proofs.add_answer.Tie as tie
@@ -21,7 +19,7 @@ abbrev given : tie.Start → Memory
 given c = memory (c .args .store) (c .args .events .now) (c .args .ends .now)
 
 abbrev checks : tie.Start → List Check
-checks c = checks-of-add 0 (given c) (c .args .trace .now)
+checks c = checks-of-add (given c) (c .args .trace .now)
 
 abbrev start : tie.Else1 → tie.Start
 start c = c .before .before .before .before .before
@@ -29,13 +27,11 @@ start c = c .before .before .before .before .before
 is-sound-yes : (c : tie.Else1) → sound (given (start c)) ≡ true
 is-sound-yes c = sym (c .before .is-sound .ensures) ∙ not-false (c .before .is-sound .result) (c .if1 .left)
 
-declared-yes :
+all-declared :
     (c : tie.Else2) →
     let args = start (c .before .before) .args in
     all-below (args .store .activities) (args .trace .now) ≡ true
-declared-yes c =
-    ap (all-below (start (c .before .before) .args .store .activities)) (sym (take-all _ _ (c .if2 .left)))
-    ∙ c .before .declared-front .ensures .1 .0
+all-declared c = declared-yes _ _ _ (c .before .declared-front .ensures) (c .if2 .left)
 
 -- past the checks 1, 6 and 7
 not-long :
@@ -43,7 +39,7 @@ not-long :
     let checks = checks (start (c .before .before .before)) in
     reply checks [] ≡ reply (drop 3 checks) []
 not-long c =
-    simp (is-sound-yes (c .before .before .before), declared-yes (c .before), le-ltb _ _ (c .if3 .left))
+    simp (is-sound-yes (c .before .before .before), all-declared (c .before), le-ltb _ _ (c .if3 .left))
 
 -- whether the store is full
 full-is : (c : tie.After-is-full) → full (room (given (start (c .before .before .before .before .before)))) ≡ c .is-full .result
@@ -64,15 +60,8 @@ refused-requires c κs = search needs
 
 returns : tie.Need-returns
 returns c =
-    let args = c .before .before .before .before .before .before .args in
-    let place = some-place (args .store .activities) (args .trace .now) in
-    record {
-      place = place .0;
-      free = place .1;
-      says =
-          let tested = c .before .before .is-sound in
-          simp (c .refused .ensures, ← tested .ensures, not-true (tested .result) (c .before .if1 .taken));
-    }
+    let tested = c .before .before .is-sound in
+    simp (c .refused .ensures, ← tested .ensures, not-true (tested .result) (c .before .if1 .taken))
 
 declared-front-requires : tie.Need-declared-front-requires
 declared-front-requires c κs = search needs
@@ -86,14 +75,9 @@ refused-requires-2 c κs = search needs
 returns-2 : tie.Need-returns-2
 returns-2 c =
     let found = c .before .before in
-    let trace = start (found .before) .args .trace .now in
-    let within = c .before .if2 .taken in
-    let above = found .declared-front .ensures .1 .1 within in
-    record {
-      place = found .declared-front .result + 1;
-      free = λ undeclared. found-place _ trace _ within above;
-      says = simp (c .refused2 .ensures, is-sound-yes (found .before), not-all-below _ trace _ within above);
-    }
+    let front = found .declared-front .ensures in
+    let some = declared-no _ _ _ front (c .before .if2 .taken) in
+    simp (c .refused2 .ensures, is-sound-yes (found .before), some) (ap (λ r. refused 6 (r + 1)) front)
 
 cast-if3 : tie.Need-cast-if3
 cast-if3 c = search needs
@@ -104,9 +88,8 @@ refused-requires-3 c κs = search needs
 returns-3 : tie.Need-returns-3
 returns-3 c =
     let before = c .before .before in
-    declared-answers _ _ _ (declared-yes before)
-    (ap add-said (c .refused3 .ensures)
-    ∙ sym (simp (is-sound-yes (before .before .before), declared-yes before, lt-ltb _ _ (c .before .if3 .taken))))
+    ap add-said (c .refused3 .ensures)
+    ∙ sym (simp (is-sound-yes (before .before .before), all-declared before, lt-ltb _ _ (c .before .if3 .taken)))
 
 room-of-requires : tie.Need-room-of-requires
 room-of-requires c κs = search needs
@@ -120,8 +103,7 @@ refused-requires-4 c κs = search needs
 returns-4 : tie.Need-returns-4
 returns-4 c =
     let tested = c .before .before in
-    declared-answers _ _ _ (declared-yes (tested .before .before .before))
-    (ap add-said (c .refused4 .ensures) ∙ sym (not-long (tested .before .before) ∙ rw (full-is tested ∙ c .before .if4 .taken)))
+    ap add-said (c .refused4 .ensures) ∙ sym (not-long (tested .before .before) ∙ rw (full-is tested ∙ c .before .if4 .taken))
 
 cast-if5 : tie.Need-cast-if5
 cast-if5 c = search needs
@@ -140,9 +122,8 @@ returns-5 c =
     let s = start (here .before .before .before .before .before .before .before .before) in
     let m = given s in
     let same = here .before .before .before .before .room-of .ensures in
-    declared-answers _ _ _ (declared-yes (here .before .before .before .before .before .before))
-    (ap add-said (c .refused5 .ensures)
-    ∙ sym (not-full (here .before .before) ∙ rw (lt-ltb (length (m .events)) (last-end m + length (s .args .trace .now)) (omega (arith, c .before .if5 .taken, ap (λ r. r .last) same, ap (λ r. r .events) same)))))
+    ap add-said (c .refused5 .ensures)
+    ∙ sym (not-full (here .before .before) ∙ rw (lt-ltb (length (m .events)) (last-end m + length (s .args .trace .now)) (omega (arith, c .before .if5 .taken, ap (λ r. r .last) same, ap (λ r. r .events) same))))
 
 returns-6 : tie.Need-returns-6
 returns-6 c =
@@ -150,10 +131,9 @@ returns-6 c =
     let s = start (here .before .before .before .before .before .before .before .before) in
     let m = given s in
     let same = here .before .before .before .before .room-of .ensures in
-    declared-answers _ _ _ (declared-yes (here .before .before .before .before .before .before))
-    (sym
+    sym
     (not-full (here .before .before)
-    ∙ rw (le-ltb (length (m .events)) (last-end m + length (s .args .trace .now)) (omega (arith, c .if5 .left, sub-if5 here, ap (λ r. r .last) same, ap (λ r. r .events) same)))))
+    ∙ rw (le-ltb (length (m .events)) (last-end m + length (s .args .trace .now)) (omega (arith, c .if5 .left, sub-if5 here, ap (λ r. r .last) same, ap (λ r. r .events) same))))
 
 pub add-answer-spec : {M : Type 1} → statement M
 add-answer-spec =

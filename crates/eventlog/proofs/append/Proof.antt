@@ -1,6 +1,6 @@
 -- `eventlog::append` meets its contract: what the answer says of the trace gives each bound. Assumes nothing.
 use Prim.Native.Nat.{ℕ, _+_, _^_, _≤_, _<_}
-use mathlib.Core.List.{List}
+use mathlib.Core.List.{List, []}
 use lib.ListN.{length}
 use native.Mathlib.Omega.{arith}
 use mathlib.Core.Path.{sym}
@@ -28,7 +28,7 @@ bounds :
 unfolding last-end
 bounds c =
     let start = c .before .before .before .before .before in
-    let a = accepted _ (given start) (start .args .trace .now) (sym (start .pre .says)) in
+    let a = accepted (given start) (start .args .trace .now) [] (sym (start .pre)) in
     record {
       fits = omega (arith, c .last-end .ensures, a .1 .fits);
       small = omega (arith, c .last-end .ensures, last-end-bound _ (a .0), a .1 .short, a .1 .below-most);

@@ -9,7 +9,7 @@ use lib.Seq.{length-take-le}
 use borrow.Author.Needs.{needs}
 use borrow.Author.Tests.{le-leb, lt-leb, ltb-true, ltb-false, not-true, not-false}
 use Rattle.eventlog.specs.Store.{Memory, memory, declarable, sound, last-end, all-below}
-use Rattle.eventlog.proofs.Walks.{all-below-found}
+use Rattle.eventlog.proofs.Walks.{all-declared}
 use Rattle.eventlog.proofs.is_sound.Statement.{statement}
 use Rattle.eventlog.proofs.is_sound.Tie as tie
 
@@ -101,12 +101,11 @@ declared-front-requires c κs = search needs
 returns-5 : tie.Need-returns-5
 unfolding last-end
 returns-5 c =
-    let found = c .declared-front .ensures in
     let fits = c .before .before .if5 .left in
     sym
     (rising-ends (c .before .before .before .before)
     ∙ simp (← c .before .before .before .last-end .ensures, le-leb _ _ fits)
-    (all-below-found _ _ _ _ (length-take-le _ _ fits) (found .0) (found .1 .0) (found .1 .1)))
+    (all-declared _ _ _ (c .declared-front .ensures) _ (length-take-le _ _ fits)))
 
 pub is-sound-spec : {M : Type 1} → statement M
 is-sound-spec =
