@@ -1,7 +1,7 @@
 -- Demand 3: one theorem about all histories. Each call is known by its contract's record alone.
 -- Assumes nothing.
 use Prim.Native.Nat.{ℕ, _*_}
-use mathlib.Core.Path.{_≡_, refl, sym, ap, ap₂, subst, transport, _∙_}
+use mathlib.Core.Path.{_≡_, refl, sym, ap₂, subst, transport, _∙_}
 use mathlib.Core.List.{List, [], _∷_, _++_}
 use lib.ListN.{length, take, getElem?}
 use Rattle.base.specs.Checks.{gives}
@@ -13,7 +13,7 @@ use Rattle.declare.specs.Constraints.{Exactly}
 use Rattle.discovery.specs.Claims.{AlikeQuestions}
 use Rattle.declare.proofs.constraints.Members.{exactly-one}
 use Rattle.discovery.proofs.Orderless.{trace-count-alike, is-listed-alike, survives-alike, layout-alike}
-use Rattle.history.specs.Ledger.{Call, open-for, add, read, find, Shown, Ledger, first-ledger, after, shows}
+use Rattle.history.specs.Ledger.{Call, open-for, add, read, find, Shown, Ledger, first-ledger, after}
 use Rattle.history.specs.Histories.{Called, Fresh, History, after-all, ledger-after, shows-all, ledger-shows, Never-1, Keeps, FindIn, question-of, Right, Accepted, EqualFinds, FindAt, Demand3}
 use Rattle.history.proofs.Replies.{ledger-never-1}
 use Rattle.history.proofs.CallSteps.{fresh-keeps, Follows, open-follows, add-follows, read-follows, find-shows, find-follows}

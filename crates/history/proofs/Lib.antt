@@ -1,4 +1,5 @@
 pub mod CallSteps
 pub mod Demand3
 pub mod Finds
+pub mod Outcomes
 pub mod Replies
