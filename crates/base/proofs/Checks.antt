@@ -8,7 +8,8 @@ use native.Mathlib.Omega.{arith}
 use Rattle.base.specs.Checks.{Check, Reply, gives, refused, reply, when-passed}
 use Rattle.base.proofs.Bools.{either}
 
-never-both {ℓ} : {P : Type ℓ} {values : List ℕ} {number detail : ℕ} → gives values ≡ refused number detail → P
+-- an answer is not accepted and refused
+pub never-both {ℓ} : {P : Type ℓ} {values : List ℕ} {number detail : ℕ} → gives values ≡ refused number detail → P
 never-both e = let z : _≡_ {A = ℕ} 0 1 = cc in absurd (omega arith)
 
 -- ## Every check passes

@@ -33,7 +33,7 @@ pub record Opens (n : ℕ) (answer : OpenAnswer) : Type 0 where
 
 -- ## Add
 
--- how many activities stand before the first that is not declared: all of them where each is
+-- how many activities stand before the first that is not declared; where each is declared, all of them
 unfoldable pub declared-front : ℕ → List ℕ → ℕ
 declared-front n trace = find-index (λ x. not (ltb x n)) trace
 
