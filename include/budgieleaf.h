@@ -35,7 +35,7 @@
  *    8  run count already 4095 or the ends slice's length          line           the program that lends memory
  *    9  steps don't fit in the step buffer behind the last end     line           the program that lends memory
  *   10  list shorter than four numbers for each rule to be listed  rules needed   the program that lends memory
- *   11  no run kept                                                0              the operator
+ *   11  no run of length 1 or more kept                            0              the operator
  *   12  more than 65536 bytes of input                             0              the program that lends memory
  * What is sound, `budgieleaf_is_sound` says. A line is the log's, from 1. Add has no lines: its detail is 0 in 7, 8
  * and 9, and in 6 the place, from 1, of the first step that is not below N. Open has no answer, and so no detail. Only
@@ -77,7 +77,8 @@ bool budgieleaf_is_sound(const uint32_t store[2], const uint8_t *events, size_t 
                          size_t ends_length);
 
 /*
- * One trace more, of 0 to 4096 activities, behind those kept. Accepted: answer is { 0, 0, 0 }.
+ * One trace more, of 0 to 4096 activities, behind those kept. Accepted: answer is { 0, 0, 0 }. An empty trace is kept as
+ * any other: it takes an end, 8 counts it, and budgieleaf_find passes over it.
  * Refusals, the first that holds: 1, 6, 7, 8, 9. For 6 the detail is the lowest place of an activity not below N.
  */
 uint32_t budgieleaf_add(uint32_t store[2], uint8_t *events, size_t events_length, uint32_t *ends, size_t ends_length,
@@ -97,12 +98,12 @@ uint32_t budgieleaf_read(uint32_t store[2], uint8_t *events, size_t events_lengt
 
 /*
  * The constraints that enough of the kept traces fulfil: a count c meets a threshold t over R traces where
- * 1000 * c >= t * R, so the threshold is in thousandths. Each takes four numbers of the list: template (1 to 24), a, b
- * (for templates 1 to 8, a again) and the count of traces fulfilled, by template, then a, then b, rising. Numbers past
- * the last constraint stay as they were. There are at most 14 * N * N - 6 * N constraints, so 4 * 14144 numbers are
- * always enough.
- * Accepted: answer is { constraints listed, constraints replayed after pruning, traces kept }.
- * Refusals, the first that holds: 1, 3, 11, 10.
+ * 1000 * c >= t * R, so the threshold is in thousandths. R and all counts are taken over the kept traces of length 1 or
+ * more. Each constraint takes four numbers of the list: template (1 to 24), a, b (for templates 1 to 8, a again) and the
+ * count of traces fulfilled, by template, then a, then b, rising. Numbers past the last constraint stay as they were.
+ * There are at most 14 * N * N - 6 * N constraints, so 4 * 14144 numbers are always enough.
+ * Accepted: answer is { constraints listed, constraints replayed after pruning, R }.
+ * Refusals, the first that holds: 1, 3, 11, 10. Where only empty traces are kept, it is 11.
  */
 uint32_t budgieleaf_find(const uint32_t store[2], const uint8_t *events, size_t events_length, const uint32_t *ends,
                          size_t ends_length, uint32_t threshold, uint16_t *list, size_t list_length, uint64_t answer[3]);

@@ -57,6 +57,12 @@ int main(void)
         return refused("add", number, answer[0]);
     printf("add: %" PRIu32 " traces are kept\n", store[1]);
 
+    /* An empty trace, as of a run that was booked and cancelled, is kept, and a find passes over it. */
+    number = add(by_hand, 0, answer);
+    if (number != 0)
+        return refused("add", number, answer[0]);
+    printf("add: %" PRIu32 " traces are kept, the last of them empty\n", store[1]);
+
     /* A refused call changes nothing, and says why: the first mistyped activity stands at place 2. */
     number = add(mistyped, sizeof mistyped, answer);
     if (number != 0)

@@ -110,14 +110,17 @@ fn sound(memory: &Memory) -> Option<Sound<'_>> {
     declared.then_some(Sound { record, events, ends })
 }
 
-/// The kept traces as parts of the events.
+/// The kept traces of length 1 or more as parts of the events.
 fn traces(Sound { record, events, ends }: Sound<'_>) -> impl Iterator<Item = &[u8]> {
     let mut from = 0;
-    ends[..record.traces as usize].iter().map(move |&end| {
-        let trace = &events[from..end as usize];
-        from = end as usize;
-        trace
-    })
+    ends[..record.traces as usize]
+        .iter()
+        .map(move |&end| {
+            let trace = &events[from..end as usize];
+            from = end as usize;
+            trace
+        })
+        .filter(|w| !w.is_empty())
 }
 
 /// Byte by byte, as the proved code does.
@@ -136,12 +139,12 @@ pub fn by_library(trace: &[u8], x: u8) -> bool {
     }
 }
 
-/// The kept traces that count for the constraint's class.
-fn support(has: impl Fn(&[u8], u8) -> bool, store: Sound, template: u8, a: u8, b: u8) -> u32 {
+/// The kept traces that count for the constraint's class; r is all of length 1 or more.
+fn support(has: impl Fn(&[u8], u8) -> bool, store: Sound, r: u32, template: u8, a: u8, b: u8) -> u32 {
     let all = traces(store);
     let count = match template {
         1..=3 | 7..=8 => all.filter(|w| has(w, a)).count(),
-        4..=6 => store.record.traces as usize,
+        4..=6 => r as usize,
         9..=10 | 12 | 23..=24 => all.filter(|w| has(w, a) || has(w, b)).count(),
         _ => all.filter(|w| has(w, a) && has(w, b)).count(),
     };
@@ -157,10 +160,11 @@ fn walk(
     automaton: &Automaton,
     has: impl Fn(&[u8], u8) -> bool + Copy,
     store: Sound,
+    r: u32,
     threshold: u32,
     mut listed: impl FnMut([u16; NUMBERS]),
 ) -> u32 {
-    let (n, kept) = (store.record.activities as u8, store.record.traces);
+    let n = store.record.activities as u8;
     let mut replayed = 0;
     for template in 1..=24u8 {
         for a in 0..n {
@@ -173,12 +177,12 @@ fn walk(
                 if template > 12 && a == b {
                     continue;
                 }
-                if !meets(support(has, store, template, a, b), threshold, kept) {
+                if !meets(support(has, store, r, template, a, b), threshold, r) {
                     continue;
                 }
                 let count = traces(store).filter(|w| automaton.fulfilled(template, a, b, w)).count() as u32;
                 replayed += 1;
-                if meets(count, threshold, kept) {
+                if meets(count, threshold, r) {
                     listed([template as u16, a as u16, b as u16, count as u16]);
                 }
             }
@@ -199,22 +203,22 @@ pub fn find(
     if !(1..=1000).contains(&threshold) {
         return Err(refusal(3, 0));
     }
-    let Record { activities, traces } = store.record;
-    if traces == 0 {
+    let r = traces(store).count() as u32;
+    if r == 0 {
         return Err(refusal(11, 0));
     }
-    if list.len() < room_for_all(activities) {
+    if list.len() < room_for_all(store.record.activities) {
         let mut needed = 0;
-        walk(automaton, has, store, threshold, |_| needed += 1);
+        walk(automaton, has, store, r, threshold, |_| needed += 1);
         if list.len() < NUMBERS * needed {
             return Err(refusal(10, needed));
         }
     }
     let mut listed = 0;
     let mut places = list.chunks_exact_mut(NUMBERS);
-    let replayed = walk(automaton, has, store, threshold, |rule| {
+    let replayed = walk(automaton, has, store, r, threshold, |rule| {
         places.next().unwrap().copy_from_slice(&rule);
         listed += 1;
     });
-    Ok(FindAnswer { listed, replayed, traces })
+    Ok(FindAnswer { listed, replayed, traces: r })
 }

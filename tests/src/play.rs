@@ -125,9 +125,14 @@ pub struct Sizes {
     pub calls: usize,
     pub longest: usize,
     pub lines: usize,
+    /// How many of a hundred added traces are empty, beside those that come so.
+    pub empty: usize,
 }
 
-fn added_trace(rng: &mut Rng, n: u32, longest: usize) -> Vec<u8> {
+fn added_trace(rng: &mut Rng, n: u32, Sizes { longest, empty, .. }: Sizes) -> Vec<u8> {
+    if rng.chance(empty) {
+        return vec![];
+    }
     let mut w = gen::trace(rng, n, longest);
     match rng.below(12) {
         0 => w.insert(rng.below(w.len() + 1), rng.pick(&[n as u8, n as u8 + 1, 32, 255])),
@@ -176,7 +181,7 @@ pub fn next_call(rng: &mut Rng, ledger: &Ledger, sizes: Sizes) -> Call {
             0 => rng.pick(&[0, 33, 34, 256, 257, 288, u32::MAX, 1 << 31, 65537]),
             _ => gen::activities(rng),
         }),
-        1..=7 => Call::Add(added_trace(rng, n, sizes.longest)),
+        1..=7 => Call::Add(added_trace(rng, n, sizes)),
         8..=13 => {
             let count = rng.below(6);
             let longest = rng.within(1, sizes.longest.min(sizes.lines));

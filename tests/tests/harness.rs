@@ -5,11 +5,11 @@ use budgieleaf_tests::lent::{Memory, Record};
 use budgieleaf_tests::memories;
 use budgieleaf_tests::oracle::finder::NUMBERS;
 use budgieleaf_tests::oracle::ledger::Refusal;
-use budgieleaf_tests::oracle::memory::{is_sound, Model};
+use budgieleaf_tests::oracle::memory::{is_sound, kept, Model};
 use budgieleaf_tests::play::{play, Sizes};
 use budgieleaf_tests::rng::Rng;
 
-const SMALL: Sizes = Sizes { events: 60, ends: 9, calls: 40, longest: 9, lines: 40 };
+const SMALL: Sizes = Sizes { events: 60, ends: 9, calls: 40, longest: 9, lines: 40, empty: 40 };
 
 #[test]
 fn the_model_agrees_with_the_ledger() {
@@ -45,9 +45,14 @@ enum Fault {
     Replayed,
     Traces,
     ReadCount,
+    EmptyDropped,
+    FullWithoutEmpty,
+    EmptyInR,
+    EmptyFulfils,
+    OnlyEmptyListed,
 }
 
-const FAULTS: [Fault; 19] = [
+const FAULTS: [Fault; 24] = [
     Fault::OpensAny,
     Fault::EventPast,
     Fault::EndPast,
@@ -67,7 +72,21 @@ const FAULTS: [Fault; 19] = [
     Fault::Replayed,
     Fault::Traces,
     Fault::ReadCount,
+    Fault::EmptyDropped,
+    Fault::FullWithoutEmpty,
+    Fault::EmptyInR,
+    Fault::EmptyFulfils,
+    Fault::OnlyEmptyListed,
 ];
+
+/// The empty traces that a memory keeps.
+fn empty(memory: &Memory) -> u32 {
+    if is_sound(memory) {
+        kept(memory).traces.iter().filter(|w| w.is_empty()).count() as u32
+    } else {
+        0
+    }
+}
 
 /// The model with one fault, and whether it has come into play.
 struct Faulty {
@@ -137,6 +156,12 @@ impl Calls for Faulty {
                 r.detail = highest;
             }
         }
+        if self.when(Fault::EmptyDropped, said.is_ok() && trace.is_empty()) {
+            memory.record = before;
+        }
+        if said.is_err_and(|r| r.number == 8) && self.when(Fault::FullWithoutEmpty, empty(memory) > 0) {
+            said = Ok(());
+        }
         self.memory(said.is_ok(), before, memory);
         said
     }
@@ -176,7 +201,18 @@ impl Calls for Faulty {
                 found.listed += self.when(Fault::Listed, true) as u32;
                 found.replayed += self.when(Fault::Replayed, true) as u32;
                 found.traces += self.when(Fault::Traces, true) as u32;
+                let empty = empty(memory);
+                if self.when(Fault::EmptyInR, empty > 0) {
+                    found.traces += empty;
+                }
+                let absence = list[..used].chunks_mut(NUMBERS).find(|c| c[0] == 4);
+                if self.when(Fault::EmptyFulfils, empty > 0 && absence.is_some()) {
+                    absence.unwrap()[3] += empty as u16;
+                }
             }
+        }
+        if said.is_err_and(|r| r.number == 11) && self.when(Fault::OnlyEmptyListed, memory.record.traces > 0) {
+            said = Ok(FindAnswer { listed: 0, replayed: 0, traces: 0 });
         }
         said
     }

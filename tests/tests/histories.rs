@@ -27,7 +27,16 @@ fn random(name: &str, seed: u64, default: usize, answers: &[usize], sizes: impl 
 fn small_buffers() {
     random("small", 1, 1200, &[0, 2, 3, 4, 5, 6, 8, 9, 10, 11], |rng| {
         let longest = rng.pick(&[1, 4, 9]);
-        Sizes { events: rng.below(60), ends: rng.below(9), calls: 30, longest, lines: 40 }
+        Sizes { events: rng.below(60), ends: rng.below(9), calls: 30, longest, lines: 40, empty: 0 }
+    });
+}
+
+/// Most traces are empty, and often all that are kept.
+#[test]
+fn full_of_empty_traces() {
+    random("empty", 3, 400, &[0, 3, 6, 8, 9, 10, 11], |rng| {
+        let (longest, empty) = rng.pick(&[(1, 50), (2, 90), (6, 60), (6, 95)]);
+        Sizes { events: rng.below(60), ends: rng.within(1, 25), calls: 40, longest, lines: 3, empty }
     });
 }
 
@@ -35,7 +44,7 @@ fn small_buffers() {
 fn middling_buffers() {
     random("middling", 2, 250, &[0, 2, 3, 4, 5, 6, 8, 9, 10, 11], |rng| {
         let longest = rng.pick(&[3, 15, 40]);
-        Sizes { events: rng.within(100, 600), ends: rng.within(10, 40), calls: 60, longest, lines: 200 }
+        Sizes { events: rng.within(100, 600), ends: rng.within(10, 40), calls: 60, longest, lines: 200, empty: 20 }
     });
 }
 
@@ -43,7 +52,7 @@ fn middling_buffers() {
 fn large_buffers() {
     random("large", 17, 40, &[0, 4, 6, 7, 9, 10], |rng| {
         let longest = rng.pick(&[300, 4096]);
-        Sizes { events: rng.within(9000, 30000), ends: rng.within(5, 5000), calls: 25, longest, lines: 5000 }
+        Sizes { events: rng.within(9000, 30000), ends: rng.within(5, 5000), calls: 25, longest, lines: 5000, empty: 0 }
     });
 }
 
@@ -70,13 +79,14 @@ fn up_to_the_last_trace() {
         for k in 0..3 {
             assert_eq!(call(Call::Add(vec![k; k as usize])), Said::Added);
         }
+        // The empty one is kept, and 8 counts it; R does not.
         assert_eq!(call(Call::Add(vec![])), Said::Refused(refusal(8, 0)));
         assert_eq!(call(Call::Add(vec![1; 4097])), Said::Refused(refusal(7, 0)));
         assert_eq!(call(Call::Read(b"     1  0\n".to_vec())), Said::Refused(refusal(8, 1)));
         assert_eq!(call(Call::Read(b"     1  3\n".to_vec())), Said::Refused(refusal(6, 1)));
         assert_eq!(call(Call::Read(vec![])), Said::Read(0));
         let listed = call(Call::Find(300, list_for(rng, 100)));
-        assert!(matches!(listed, Said::Found(FindAnswer { traces, .. }) if traces == most as u32), "{listed:?}");
+        assert!(matches!(listed, Said::Found(FindAnswer { traces, .. }) if traces == most as u32 - 1), "{listed:?}");
     }
 }
 
@@ -97,7 +107,7 @@ fn up_to_the_last_event() {
     assert_eq!(call(Call::Add(vec![])), Said::Added);
     assert_eq!(call(Call::Add(vec![0])), Said::Refused(refusal(9, 0)));
     assert_eq!(call(Call::Read(lines(1))), Said::Refused(refusal(9, 1)));
-    assert!(matches!(call(Call::Find(500, list_for(rng, 100))), Said::Found(FindAnswer { traces: 4, .. })));
+    assert!(matches!(call(Call::Find(500, list_for(rng, 100))), Said::Found(FindAnswer { traces: 3, .. })));
     assert_eq!(call(Call::Open(33)), Said::Refused(refusal(2, 0)));
     assert_eq!(call(Call::Open(32)), Said::Opened);
     assert_eq!(call(Call::Find(500, list_for(rng, 100))), Said::Refused(refusal(11, 0)));
@@ -186,20 +196,60 @@ fn all_short_traces_with_undeclared_steps() {
     }
 }
 
-/// Two finds alike in N, threshold and traces, whatever their order, give the same list and numbers.
+/// Only empty traces, up to the last that is kept: they take ends and no events, 8 counts them, and find says 11 whatever the slice; 3 comes
+/// first. A trace of length 1 beside them is listed as if it were alone.
 #[test]
-fn the_order_of_traces_does_not_matter() {
+fn only_empty_traces() {
+    for (ends_room, most) in [(1, 1), (7, 7), (4095, 4095), (5000, 4095)] {
+        let rng = &mut Rng::new(19 + ends_room as u64);
+        let mut history = History::fresh(Archive, rng, 3, 1, ends_room);
+        for k in 0..most - 1 {
+            assert_eq!(history.call(Call::Add(vec![])).unwrap(), Said::Added);
+            if k < 3 || k > most - 4 {
+                for room in [0, 1, 1000] {
+                    assert_eq!(history.call(Call::Find(1000, list(rng, room))).unwrap(), Said::Refused(refusal(11, 0)));
+                }
+                assert_eq!(history.call(Call::Find(1001, list(rng, 0))).unwrap(), Said::Refused(refusal(3, 0)));
+            }
+        }
+        let mut with_one = history.memory.clone();
+        assert_eq!(history.call(Call::Add(vec![])).unwrap(), Said::Added);
+        assert_eq!(history.call(Call::Find(1, list_for(rng, 200))).unwrap(), Said::Refused(refusal(11, 0)));
+        assert_eq!(history.call(Call::Add(vec![])).unwrap(), Said::Refused(refusal(8, 0)));
+        assert_eq!(history.call(Call::Read(b"     1  2\n".to_vec())).unwrap(), Said::Refused(refusal(8, 1)));
+        let mut alone = History::fresh(Archive, rng, 3, 1, 1).memory;
+        for memory in [&mut with_one, &mut alone] {
+            assert_eq!(compare(&mut Archive, memory, &Call::Read(b"     1  2\n".to_vec())).unwrap(), Said::Read(1));
+        }
+        for threshold in [1, 500, 1000] {
+            let lent = list_for(rng, 200);
+            let said = [&mut with_one, &mut alone].map(|memory| {
+                let mut slice = lent.clone();
+                let said = Archive.find(memory, threshold, slice.get_mut());
+                (said, slice)
+            });
+            assert!(said[0].0.is_ok_and(|found| found.traces == 1 && found.listed > 0) && said[0] == said[1]);
+        }
+    }
+}
+
+/// Two finds alike in N, threshold and traces of length 1 or more, whatever their order and however many empty ones are kept beside them,
+/// give the same list and numbers.
+#[test]
+fn neither_order_nor_empty_traces_matter() {
     let rng = &mut Rng::new(14);
     for _ in 0..cases(60) {
         let n = gen::activities(rng);
         let count = rng.within(1, 12);
-        let mut traces = gen::traces(rng, n, count, 10);
+        let traces: Vec<_> = gen::traces(rng, n, count, 10).into_iter().filter(|w| !w.is_empty()).collect();
         let (threshold, lent) = (gen::threshold(rng), list_for(rng, 15000));
         let mut lists = Vec::new();
         for _ in 0..2 {
-            rng.shuffle(&mut traces);
-            let mut history = History::fresh(Archive, rng, n, 150, 12);
-            for trace in &traces {
+            let mut kept = traces.clone();
+            kept.resize(traces.len() + rng.below(9), vec![]);
+            rng.shuffle(&mut kept);
+            let mut history = History::fresh(Archive, rng, n, 150, 20);
+            for trace in &kept {
                 assert_eq!(history.call(Call::Add(trace.clone())).unwrap(), Said::Added);
             }
             let mut slice = lent.clone();

@@ -62,6 +62,14 @@ all-drop p zero xs h = h
 all-drop p (suc n) [] h = refl
 all-drop p (suc n) (x ∷ xs) h = all-drop p n xs (and-right (p x) (all p xs) h)
 
+pub all-filter {ℓ} : {A : Type ℓ} (p q : A → Bool) (xs : List A) → all p xs ≡ true → all p (filter q xs) ≡ true
+all-filter p q [] h = refl
+all-filter p q (x ∷ xs) h = go (q x) (all-filter p q xs (and-right (p x) (all p xs) h))
+  where
+    go : (t : Bool) → all p (filter q xs) ≡ true → all p (if t then x ∷ filter q xs else filter q xs) ≡ true
+    go true rest = and-both (p x) (all p (filter q xs)) (and-left (p x) (all p xs) h) rest
+    go false rest = rest
+
 -- ## Find index
 
 module _ {ℓ} {A : Type ℓ} (p : A → Bool) where
@@ -134,6 +142,11 @@ module _ {A : Type 0} (p : A → Bool) where
       go true s = Sublistᴰ·cons-cons refl s
       go false s = Sublistᴰ·cons s
 
+  pub filter-all : (xs : List A) → all p xs ≡ true → filter p xs ≡ xs
+  filter-all [] h = refl
+  filter-all (x ∷ xs) h =
+      rw (and-left (p x) (all p xs) h) (ap (λ (l : List A). x ∷ l) (filter-all xs (and-right (p x) (all p xs) h)))
+
   pub filter-append : (xs ys : List A) → filter p (xs ++ ys) ≡ filter p xs ++ filter p ys
   filter-append [] ys = refl
   filter-append (x ∷ xs) ys = go (p x) (filter-append xs ys)
@@ -170,6 +183,26 @@ count-same q p p′ [] h same = refl
 count-same q p p′ (x ∷ xs) h same =
     let here = same x (and-left (q x) (all q xs) h) in
     rw (count-cons p x xs, count-cons p′ x xs, here, count-same q p p′ xs (and-right (q x) (all q xs) h) same)
+
+-- a test that all pass counts all
+pub count-all {ℓ} : {A : Type ℓ} (p : A → Bool) → ((x : A) → p x ≡ true) → (xs : List A) → count p xs ≡ length xs
+count-all p h [] = refl
+count-all p h (x ∷ xs) = count-cons p x xs ∙ rw (h x, count-all p h xs)
+
+pub count-none {ℓ} : {A : Type ℓ} (xs : List A) → count (λ x. false) xs ≡ 0
+count-none [] = refl
+count-none (x ∷ xs) = count-none xs
+
+-- of those that pass a test, those that pass another pass both
+pub count-filter {ℓ} : {A : Type ℓ} (q p : A → Bool) (xs : List A) → count p (filter q xs) ≡ count (λ x. q x && p x) xs
+count-filter q p [] = refl
+count-filter q p (x ∷ xs) = go (q x) refl (count-filter q p xs)
+  where
+    go :
+        (t : Bool) → q x ≡ t → count p (filter q xs) ≡ count (λ x. q x && p x) xs →
+        count p (if t then x ∷ filter q xs else filter q xs) ≡ count (λ x. q x && p x) (x ∷ xs)
+    go true e h = count-cons p x (filter q xs) ∙ rw h (sym (count-cons (λ x. q x && p x) x xs ∙ rw e))
+    go false e h = h ∙ sym (count-cons (λ x. q x && p x) x xs ∙ rw e)
 
 pub count-append : {A : Type 0} (p : A → Bool) (xs ys : List A) → count p (xs ++ ys) ≡ count p xs + count p ys
 count-append p xs ys = ap length (filter-append p xs ys) ∙ length-append (filter p xs) (filter p ys)

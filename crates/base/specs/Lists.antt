@@ -1,10 +1,15 @@
--- Lists: filter, count, all, find index, range, flat map, equality. (The library's filter and count go by decisions and not by tests.)
+-- Lists: non-empty ones, filter, count, all, find index, range, flat map, equality. (The library's filter and count go by decisions and not by tests.)
 -- Assumes nothing.
 use Prim.Native.Nat.{ℕ, zero, suc}
 use mathlib.Core.Bool.{Bool, true, false, _&&_}
 use mathlib.Core.List.{List, [], _∷_, _++_}
 use lib.ListN.{length}
 use Rattle.base.specs.Logic.{if_then_else_}
+
+-- of length 1 or more
+abbrev pub non-empty {ℓ} : {A : Type ℓ} → List A → Bool
+non-empty [] = false
+non-empty (x ∷ xs) = true
 
 -- those that pass a test
 abbrev pub filter {ℓ} : {A : Type ℓ} → (A → Bool) → List A → List A

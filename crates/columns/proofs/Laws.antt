@@ -1,19 +1,23 @@
 -- Laws of read, for what comes above: after an accepted read the memory is sound, keeps the old traces followed by those that the log
--- spells, in order, and has the room that is left after them.
+-- spells, in order, and has the room that is left after them. A log spells no empty trace.
 -- Assumes nothing.
 use Prim.Native.Nat.{ℕ}
-use mathlib.Core.Path.{_≡_, sym, _∙_}
-use mathlib.Core.Bool.{true}
+use mathlib.Core.Path.{_≡_, refl, sym, _∙_}
+use mathlib.Core.Bool.{Bool, true, false}
 use mathlib.Core.List.{List, [], _∷_, _++_}
 use native.Mathlib.Omega.{arith}
 use lib.ListN.{length}
+use Rattle.base.specs.Logic.{if_then_else_}
+use Rattle.base.specs.Lists.{non-empty, all}
 use Rattle.base.specs.Checks.{gives, reply}
 use Rattle.eventlog.specs.Store.{Memory, sound, kept, room, after-traces}
 use Rattle.columns.specs.declared.ReadAnswer.{ReadAnswer}
-use Rattle.columns.specs.Log.{lines, log-checks, spelled}
+use Rattle.columns.specs.Log.{Line, lines, same-trace, extend-last, Before, nothing-read, with-line, log-checks, spelled-from, spelled}
 use Rattle.columns.specs.Survey.{Bounded, survey-of, accepted, at-start}
 use Rattle.columns.specs.Calls.{with-traces, read-said}
 use Rattle.eventlog.proofs.Laws.{sound-facts, last-end-bound}
+use Rattle.base.proofs.Bools.{and-left, and-right, and-both}
+use Rattle.base.proofs.Lists.{all-append}
 use Rattle.base.proofs.Checks.{None-fail, none-fail-reply}
 use Rattle.columns.proofs.Agree.{no-line, agree, numbered-lines, fitting}
 use Rattle.columns.proofs.Traces.{Fitting, sound-traces, kept-traces, room-traces}
@@ -59,3 +63,31 @@ module _ (m : Memory) (log : List ℕ) (h : sound m ≡ true) where
 
     pub room-read : room (with-traces m (spelled log)) ≡ after-traces (room m) (spelled log)
     room-read = room-traces (spelled log) m h fitting-read
+
+-- ## Empty traces can't be written
+
+longer-non-empty : (trace : List ℕ) (x : ℕ) → non-empty (trace ++ (x ∷ [])) ≡ true
+longer-non-empty [] x = refl
+longer-non-empty (y ∷ trace) x = refl
+
+extended-non-empty : (traces : List (List ℕ)) (x : ℕ) → all non-empty traces ≡ true → all non-empty (extend-last traces x) ≡ true
+extended-non-empty [] x h = refl
+extended-non-empty (trace ∷ []) x h = rw (longer-non-empty trace x)
+extended-non-empty (trace ∷ (next ∷ traces)) x h =
+    let rest = all non-empty (next ∷ traces) in
+    and-both (non-empty trace) (all non-empty (extend-last (next ∷ traces) x)) (and-left (non-empty trace) rest h)
+    (extended-non-empty (next ∷ traces) x (and-right (non-empty trace) rest h))
+
+spelled-from-non-empty : (before : Before) (rest : List Line) → all non-empty (before .traces) ≡ true → all non-empty (spelled-from before rest) ≡ true
+spelled-from-non-empty before [] h = h
+spelled-from-non-empty before (line ∷ rest) h = spelled-from-non-empty (with-line before line) rest (go (same-trace (before .line) line))
+  where
+    go :
+        (t : Bool) →
+        all non-empty (if t then extend-last (before .traces) (line .activity) else before .traces ++ ((line .activity ∷ []) ∷ [])) ≡ true
+    go true = extended-non-empty (before .traces) (line .activity) h
+    go false = all-append non-empty (before .traces) ((line .activity ∷ []) ∷ []) h refl
+
+pub spelled-non-empty : (log : List ℕ) → all non-empty (spelled log) ≡ true
+unfolding spelled
+spelled-non-empty log = spelled-from-non-empty nothing-read (lines log) refl

@@ -1,32 +1,28 @@
--- How many of the kept traces pass a test, counted trace by trace along the store's ends: support and replay are such counts.
+-- How many of the kept traces of length 1 or more pass a test, counted trace by trace along the store's ends: support and replay are such
+-- counts.
 -- Assumes nothing.
 use Prim.Native.Nat.{ℕ, suc, _+_, _-_, _≤_, _<_}
-use mathlib.Core.Path.{_≡_, refl, ap, ap₂, _∙_}
+use mathlib.Core.Path.{_≡_, refl, sym, ap, ap₂, _∙_}
 use mathlib.Core.Bool.{Bool, true, false, _&&_}
 use mathlib.Core.List.{List, [], _∷_}
 use native.Mathlib.Numerals.{add-one}
 use native.Mathlib.Omega.{arith}
 use lib.ListN.{length, take, drop, getD, drop-of-length-le}
-use lib.Seq.{drop-cons, getD-take, length-take-le}
+use lib.Seq.{slice, drop-cons, getD-take, length-take-le}
 use Rattle.base.specs.Logic.{if_then_else_}
 use Rattle.declare.specs.declared.Verdict.{Verdict}
 use Rattle.declare.specs.declared.Verdict.the-variants.{Fulfilled, NotActivated, Violated}
 use Rattle.declare.specs.declared.constraints.Constraint.{Constraint}
 use Rattle.declare.specs.Meaning.{activated, holds, fulfilled, verdict}
-use Rattle.declare.specs.Automata.{automaton, moves-of, start, advance-all, verdict-by}
+use Rattle.declare.specs.Automata.{automaton, moves-of}
 use Rattle.declare.specs.Constraints.{Over}
 use Rattle.declare.proofs.Following.{followed-constraint}
 use Rattle.eventlog.specs.Store.{Memory, cut, kept, last-from, last-end, rising, all-below, sound}
 use Rattle.eventlog.proofs.Laws.{sound-facts, kept-declared, Rises, rising-facts, rises-on}
-use Rattle.base.specs.Lists.{count}
-use Rattle.base.proofs.Lists.{part-slice, count-same}
+use Rattle.base.specs.Lists.{non-empty, filter, count}
+use Rattle.base.proofs.Lists.{part-slice, all-filter, count-same, count-filter}
 use Rattle.discovery.specs.Question.{fulfilments}
-
--- a trace is fulfilled where the verdict says so
-abbrev pub is-fulfilled : Verdict → Bool
-is-fulfilled Fulfilled = true
-is-fulfilled NotActivated = false
-is-fulfilled Violated = false
+use Rattle.discovery.specs.Passes.{is-fulfilled, replays-fulfilled}
 
 verdict-fulfilled : (t a b : ℕ) (trace : List ℕ) → is-fulfilled (verdict t a b trace) ≡ fulfilled t a b trace
 unfolding fulfilled verdict
@@ -37,31 +33,46 @@ verdict-fulfilled t a b trace = go (activated t a b trace) (holds t a b trace)
     go true false = refl
     go false q = refl
 
--- replay by moves and verdicts says that a trace is fulfilled
-abbrev pub replays-fulfilled : List ℕ → ℕ → List ℕ → Bool
-replays-fulfilled moves verdicts trace = is-fulfilled (verdict-by verdicts (advance-all moves start trace))
-
--- by a constraint's own moves and verdicts, and over a sound memory's traces, that is so for as many as are fulfilled
+-- by a constraint's own moves and verdicts, and over a sound memory's traces, replay says so for as many as are fulfilled
 pub replay-counts :
     (m : Memory) (c : Constraint) (moves : List ℕ) (verdicts : ℕ) → sound m ≡ true → Over (m .store .activities) c →
     moves ≡ moves-of (automaton (c .template)) (c .a) (c .b) → verdicts ≡ automaton (c .template) .verdicts →
-    count (replays-fulfilled moves verdicts) (kept m) ≡ fulfilments (kept m) c
+    count (replays-fulfilled moves verdicts) (filter non-empty (kept m)) ≡ fulfilments (filter non-empty (kept m)) c
 unfolding fulfilments
 replay-counts m c moves verdicts h over e f =
     let n = m .store .activities in
-    count-same (all-below n) (replays-fulfilled moves verdicts) (fulfilled (c .template) (c .a) (c .b)) (kept m) (kept-declared m h)
+    count-same (all-below n) (replays-fulfilled moves verdicts) (fulfilled (c .template) (c .a) (c .b)) (filter non-empty (kept m))
+    (all-filter (all-below n) non-empty (kept m) (kept-declared m h))
     (λ trace declared.
     ap₂ (λ moves verdicts. replays-fulfilled moves verdicts trace) e f
     ∙ ap is-fulfilled (followed-constraint n c (sound-facts m h .few-activities) over trace declared)
     ∙ verdict-fulfilled (c .template) (c .a) (c .b) trace)
 
--- at the k-th of so many traces, which starts at `from`, with so many before it that pass
+-- ## Along the ends
+
+abbrev pub any-trace : List ℕ → Bool
+any-trace trace = true
+
+-- a trace of length 1 or more that passes
+abbrev and-passes : (List ℕ → Bool) → List ℕ → Bool
+and-passes p trace = non-empty trace && p trace
+
+some-non-empty : (trace : List ℕ) → 0 < length trace → non-empty trace ≡ true
+some-non-empty [] some = absurd (omega arith)
+some-non-empty (x ∷ trace) some = refl
+
+none-empty : (trace : List ℕ) → length trace ≤ 0 → non-empty trace ≡ false
+none-empty [] none = refl
+none-empty (x ∷ trace) none = absurd (omega arith)
+
+-- at the k-th of so many traces, which starts at `from`, with so many of length 1 or more before it that pass
 pub record Counting (p : List ℕ → Bool) (events ends : List ℕ) (traces so-far from k : ℕ) : Type 0 where
   pub has-ends : traces ≤ length ends
   pub few-traces : traces ≤ 4095
   pub few : so-far ≤ k
   pub in-store : k ≤ traces
-  pub counted : so-far + count p (cut from (drop k (take traces ends)) events) ≡ count p (cut 0 (take traces ends) events)
+  pub counted :
+      so-far + count (and-passes p) (cut from (drop k (take traces ends)) events) ≡ count (and-passes p) (cut 0 (take traces ends) events)
   pub rises : rising from (drop k (take traces ends)) ≡ true
   pub within : last-from from (drop k (take traces ends)) ≤ length events
 
@@ -86,12 +97,12 @@ few-on true so-far k h = omega arith
 few-on false so-far k h = omega arith
 
 module _ (p : List ℕ → Bool) (events ends : List ℕ) (traces so-far from k : ℕ) (w : Counting p events ends traces so-far from k) where
-  pub counting-done : traces ≤ k → so-far ≡ count p (cut 0 (take traces ends) events)
+  pub counting-done : traces ≤ k → so-far ≡ count p (filter non-empty (cut 0 (take traces ends) events))
   counting-done past =
       let none : drop k (take traces ends) ≡ [] =
       drop-of-length-le (take traces ends) {i = k} (omega (arith, length-take-le traces ends (w .has-ends))) in
       let c = rw none at (w .counted) in
-      omega arith
+      omega (arith, count-filter non-empty p (cut 0 (take traces ends) events))
 
   module _ (more : k < traces) where
     abbrev pub next : ℕ
@@ -117,10 +128,12 @@ module _ (p : List ℕ → Bool) (events ends : List ℕ) (traces so-far from k 
     abbrev pub part : List ℕ
     part = take (next - from) (drop from events)
 
-    -- one trace on, counted where it passes
-    pub counting-next : (t : Bool) → p part ≡ t → Counting p events ends traces (if t then so-far + 1 else so-far) next (k + 1)
-    counting-next t e =
-        let first = count-first p t _ (cut next (drop (suc k) (take traces ends)) events) (rw (part-slice from next events starts-before) at e) in
+    pub part-non-empty : 0 < length part → non-empty part ≡ true
+    part-non-empty = some-non-empty part
+
+    one-on : (t : Bool) → and-passes p part ≡ t → Counting p events ends traces (if t then so-far + 1 else so-far) next (k + 1)
+    one-on t e =
+        let first = count-first (and-passes p) t (slice from next events) (cut next (drop (suc k) (take traces ends)) events) (rw (part-slice from next events starts-before) at e) in
         record {
           has-ends = w .has-ends;
           few-traces = w .few-traces;
@@ -130,3 +143,11 @@ module _ (p : List ℕ → Bool) (events ends : List ℕ) (traces so-far from k 
           rises = rw (add-one k) (rises-next .rest);
           within = rw (add-one k) within-next;
         }
+
+    -- one trace on: of length 1 or more, it is counted where it passes
+    pub counting-next : 0 < length part → (t : Bool) → p part ≡ t → Counting p events ends traces (if t then so-far + 1 else so-far) next (k + 1)
+    counting-next some t e = one-on t (rw (part-non-empty some) e)
+
+    -- an empty one is not counted
+    pub counting-empty : length part ≤ 0 → Counting p events ends traces so-far next (k + 1)
+    counting-empty none = one-on false (rw (none-empty part none))

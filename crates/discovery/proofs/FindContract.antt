@@ -14,12 +14,11 @@ use Rattle.base.proofs.Checks.{given-new, refused-old}
 use Rattle.base.proofs.Lists.{count-at-most}
 use Rattle.base.proofs.Stores.{sets-none}
 use Rattle.eventlog.specs.Store.{Memory, sound}
-use Rattle.eventlog.proofs.Laws.{kept-length}
 use Rattle.discovery.specs.declared.Fit.the-variants.{Fits, Short}
 use Rattle.discovery.specs.declared.list.Tally.{Tally}
 use Rattle.discovery.specs.declared.FindAnswer.the-variants.{Listed, Refused}
 use Rattle.declare.specs.Constraints.{constraints}
-use Rattle.discovery.specs.Question.{Question, asked, is-listed, listed, replayed, numbers}
+use Rattle.discovery.specs.Question.{Question, asked, trace-count, is-listed, listed, replayed, numbers}
 use Rattle.discovery.specs.Calls.{Finds, in-range, checks-of-find, find-values, with-list}
 use Rattle.discovery.specs.Passes.{Passes, none-yet, fit-of}
 
@@ -80,24 +79,23 @@ module _ (m : Memory) (threshold : ℕ) (list : List ℕ) where
   finds-refused number detail e = record { says = sym e; leaves = sym (refused-old (checks-of-find m threshold list) _ number detail e _ _) }
 
   -- the first three checks passed, and so many constraints are to be listed
-  module _ (h : sound m ≡ true) (good : in-range threshold ≡ true) (some : m .store .traces ≡ 0 → ⊥)
+  module _ (h : sound m ≡ true) (good : in-range threshold ≡ true) (some : trace-count (asked m threshold) ≡ 0 → ⊥)
       (k : ℕ) (e : k ≡ length (listed (asked m threshold))) where
     pub finds-short : length list < numbers * k → Finds m threshold list (Refused (record { number = 10; detail = k })) list
     finds-short short =
         finds-refused 10 k
-        (rw e (simp (h, good, kept-length m h, ne-eqb (m .store .traces) 0 some, lt-ltb (length list) _ (rw e at short))))
+        (rw e (simp (h, good, ne-eqb (trace-count (asked m threshold)) 0 some, lt-ltb (length list) _ (rw e at short))))
 
     says-listed : numbers * k ≤ length list → said ≡ gives (find-values (asked m threshold))
-    says-listed fits = simp (h, good, kept-length m h, ne-eqb (m .store .traces) 0 some, le-ltb (length list) _ (rw e at fits))
+    says-listed fits = simp (h, good, ne-eqb (trace-count (asked m threshold)) 0 some, le-ltb (length list) _ (rw e at fits))
 
     pub finds-listed :
-        numbers * k ≤ length list → (t : Tally) (list′ : List ℕ) →
+        numbers * k ≤ length list → (t : Tally) (list′ : List ℕ) (all : ℕ) → all ≡ trace-count (asked m threshold) →
         Passes (asked m threshold) (constraints (m .store .activities)) none-yet list t list′ →
-        Finds m threshold list (Listed (record { constraints = t .listed; replayed = t .replayed; traces = m .store .traces })) list′
-    finds-listed fits t list′ p =
+        Finds m threshold list (Listed (record { constraints = t .listed; replayed = t .replayed; traces = all })) list′
+    finds-listed fits t list′ all same p =
         let q = asked m threshold in
-        let values : t .listed ∷ t .replayed ∷ m .store .traces ∷ [] ≡ find-values q =
-        cc (passed-listed q _ _ _ p, passed-replayed q _ _ _ p, kept-length m h) in
+        let values : t .listed ∷ t .replayed ∷ all ∷ [] ≡ find-values q = cc (passed-listed q _ _ _ p, passed-replayed q _ _ _ p, same) in
         record {
           says = ap gives values ∙ sym (says-listed fits);
           leaves = passed-written q _ _ _ p ∙ sym (given-new (checks-of-find m threshold list) _ _ (says-listed fits) _ _);

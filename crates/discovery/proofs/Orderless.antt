@@ -1,9 +1,9 @@
--- The order of the traces is nothing to discovery: alike traces have equal counts, lists and numbers.
+-- The order of the traces and the empty ones among them are nothing to discovery: alike traces have equal counts, lists and numbers.
 -- Assumes nothing.
 use Prim.Native.Nat.{ℕ, suc, _≤_}
 use mathlib.Core.Path.{_≡_, refl, sym, ap, ap₂, _∙_, fun-ext}
 use mathlib.Core.Logic.{_↔_, ∥∥₁-elim}
-use mathlib.Core.Bool.{Bool, true, false, _||_}
+use mathlib.Core.Bool.{Bool, true, false, _&&_, _||_}
 use mathlib.Core.List.{List, [], _∷_, List·Permᴰ, List·Permᴰ·nil, List·Permᴰ·cons, List·Permᴰ·swap, List·Permᴰ·trans, Perm, Permᴰ·refl, Permᴰ·symm}
 use native.Mathlib.Omega.{arith}
 use native.Mathlib.Nat.{ℕ-set}
@@ -13,11 +13,11 @@ use lib.ListN.{length}
 use Rattle.base.specs.Logic.{if_then_else_}
 use Rattle.declare.specs.Meaning.{fulfilled}
 use Rattle.declare.specs.declared.constraints.Constraint.{Constraint}
-use Rattle.base.specs.Lists.{filter, count, flat-map, equal-lists}
+use Rattle.base.specs.Lists.{non-empty, filter, count, flat-map, equal-lists}
 use Rattle.declare.specs.Constraints.{constraints}
-use Rattle.discovery.specs.Question.{Question, trace-count, meets-threshold, fulfilments, class-of, support, always, survives, is-listed, listed, layout}
-use Rattle.discovery.specs.Claims.{Alike, AlikeQuestions}
-use Rattle.base.proofs.Lists.{equal-lists-same, equal-lists-refl, count-cons, permuted-length, permuted-count}
+use Rattle.discovery.specs.Question.{Question, question-over, trace-count, meets-threshold, fulfilments, class-of, support, always, survives, is-listed, listed, layout}
+use Rattle.discovery.specs.Claims.{Alike}
+use Rattle.base.proofs.Lists.{equal-lists-same, equal-lists-refl, count-cons, count-filter, count-none, permuted-length, permuted-count}
 
 -- ## Alike is permuted
 
@@ -53,39 +53,72 @@ cons-same : (t : Bool) (j k : ℕ) → (if t then suc j else j) ≡ (if t then s
 cons-same true j k h = omega arith
 cons-same false j k h = h
 
-alike-permuted : (xs ys : List (List ℕ)) → Alike xs ys → List·Permᴰ xs ys
-alike-permuted [] [] h = List·Permᴰ·nil
-alike-permuted [] (y ∷ ys) h = absurd (omega (arith, h y, there-once y ys))
-alike-permuted (x ∷ xs) ys h =
+-- of each trace equally many are a permutation
+equal-permuted : (xs ys : List (List ℕ)) → ((t : List ℕ) → count (same t) xs ≡ count (same t) ys) → List·Permᴰ xs ys
+equal-permuted [] [] h = List·Permᴰ·nil
+equal-permuted [] (y ∷ ys) h = absurd (omega (arith, h y, there-once y ys))
+equal-permuted (x ∷ xs) ys h =
     let o = others x ys (omega (arith, h x, there-once x xs)) in
-    let alike : Alike xs (o .rest) =
+    let equal : (t : List ℕ) → count (same t) xs ≡ count (same t) (o .rest) =
     λ t. cons-same (same t x) _ _ (sym (count-cons (same t) x xs) ∙ h t ∙ permuted-count (same t) (o .moved) ∙ count-cons (same t) x (o .rest)) in
-    List·Permᴰ·trans (List·Permᴰ·cons refl (alike-permuted xs (o .rest) alike)) (Permᴰ·symm (o .moved))
+    List·Permᴰ·trans (List·Permᴰ·cons refl (equal-permuted xs (o .rest) equal)) (Permᴰ·symm (o .moved))
 
--- traces are alike just where one list is a permutation of the other
-pub alike-just-permuted : (xs ys : List (List ℕ)) → Alike xs ys ↔ Perm xs ys
-alike-just-permuted xs ys = (λ h. ∣ alike-permuted xs ys h ∣₁, λ d t. ∥∥₁-elim d (ℕ-set _ _) (permuted-count (same t)))
+-- among the traces of length 1 or more there is no empty one, and of another as many as among all
+same-non-empty : (t x : List ℕ) → non-empty x && same t x ≡ non-empty t && same t x
+same-non-empty [] [] = refl
+same-non-empty [] (y ∷ x) = refl
+same-non-empty (z ∷ t) [] = refl
+same-non-empty (z ∷ t) (y ∷ x) = refl
+
+of-non-empty : (t : List ℕ) (xs : List (List ℕ)) → count (same t) (filter non-empty xs) ≡ (if non-empty t then count (same t) xs else 0)
+of-non-empty t xs = count-filter non-empty (same t) xs ∙ ap (λ p. count p xs) (fun-ext (same-non-empty t)) ∙ go (non-empty t)
+  where
+    go : (p : Bool) → count (λ x. p && same t x) xs ≡ (if p then count (same t) xs else 0)
+    go true = refl
+    go false = count-none xs
+
+alike-permuted : (xs ys : List (List ℕ)) → Alike xs ys → List·Permᴰ (filter non-empty xs) (filter non-empty ys)
+alike-permuted xs ys h =
+    equal-permuted (filter non-empty xs) (filter non-empty ys) (λ t. of-non-empty t xs ∙ go t (non-empty t) (h t) ∙ sym (of-non-empty t ys))
+  where
+    go : (t : List ℕ) (p : Bool) → (p ≡ true → count (same t) xs ≡ count (same t) ys) → (if p then count (same t) xs else 0) ≡ (if p then count (same t) ys else 0)
+    go t true h = h refl
+    go t false h = refl
+
+-- an empty trace more or less is nothing to what is alike
+pub without-empty : (xs : List (List ℕ)) → Alike (filter non-empty xs) xs
+without-empty xs t some = of-non-empty t xs ∙ rw some
+
+permuted-alike : (xs ys : List (List ℕ)) → List·Permᴰ (filter non-empty xs) (filter non-empty ys) → Alike xs ys
+permuted-alike xs ys d t some = sym (without-empty xs t some) ∙ permuted-count (same t) d ∙ without-empty ys t some
+
+-- traces are alike just where those of length 1 or more are a permutation of each other
+pub alike-just-permuted : (xs ys : List (List ℕ)) → Alike xs ys ↔ Perm (filter non-empty xs) (filter non-empty ys)
+alike-just-permuted xs ys = (λ h. ∣ alike-permuted xs ys h ∣₁, λ d t some. ∥∥₁-elim d (ℕ-set _ _) (λ d. permuted-alike xs ys d t some))
 
 -- ## Discovery over alike traces
 
-module _ (xs ys : List (List ℕ)) (alike : Alike xs ys) where
-  pub length-alike : length xs ≡ length ys
-  length-alike = permuted-length (alike-permuted xs ys alike)
+-- questions over alike traces
+pub record AlikeQuestions (q q′ : Question) : Type 0 where
+  pub activities : q .activities ≡ q′ .activities
+  pub threshold : q .threshold ≡ q′ .threshold
+  pub traces : List·Permᴰ (q .traces) (q′ .traces)
 
-  pub fulfilments-alike : fulfilments xs ≡ fulfilments ys
-  unfolding fulfilments
-  fulfilments-alike = fun-ext (λ c. permuted-count (fulfilled (c .template) (c .a) (c .b)) (alike-permuted xs ys alike))
-
-  pub support-alike : support xs ≡ support ys
-  unfolding support
-  support-alike = fun-ext (λ c. permuted-count _ (alike-permuted xs ys alike))
+pub question-over-alike :
+    {n n′ t t′ : ℕ} (xs ys : List (List ℕ)) → n ≡ n′ → t ≡ t′ → Alike xs ys → AlikeQuestions (question-over n xs t) (question-over n′ ys t′)
+question-over-alike xs ys same-n same-t alike = record { activities = same-n; threshold = same-t; traces = alike-permuted xs ys alike }
 
 module _ (q q′ : Question) (alike : AlikeQuestions q q′) where
   pub trace-count-alike : trace-count q ≡ trace-count q′
-  trace-count-alike = length-alike (q .traces) (q′ .traces) (alike .traces)
+  trace-count-alike = permuted-length (alike .traces)
 
   same-fulfilments : fulfilments (q .traces) ≡ fulfilments (q′ .traces)
-  same-fulfilments = fulfilments-alike (q .traces) (q′ .traces) (alike .traces)
+  unfolding fulfilments
+  same-fulfilments = fun-ext (λ c. permuted-count (fulfilled (c .template) (c .a) (c .b)) (alike .traces))
+
+  same-support : support (q .traces) ≡ support (q′ .traces)
+  unfolding support
+  same-support = fun-ext (λ c. permuted-count _ (alike .traces))
 
   meets-alike : (x y : ℕ) → x ≡ y → meets-threshold q x ≡ meets-threshold q′ y
   meets-alike x y e = cc (alike .threshold, trace-count-alike)
@@ -94,8 +127,7 @@ module _ (q q′ : Question) (alike : AlikeQuestions q q′) where
   is-listed-alike = fun-ext (λ c. meets-alike _ _ (ap (λ f. f c) same-fulfilments))
 
   pub survives-alike : survives q ≡ survives q′
-  survives-alike =
-      fun-ext (λ c. ap (λ p. always (class-of (c .template)) || p) (meets-alike _ _ (ap (λ f. f c) (support-alike (q .traces) (q′ .traces) (alike .traces)))))
+  survives-alike = fun-ext (λ c. ap (λ p. always (class-of (c .template)) || p) (meets-alike _ _ (ap (λ f. f c) same-support)))
 
   pub listed-alike : listed q ≡ listed q′
   unfolding listed

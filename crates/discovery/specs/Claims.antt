@@ -1,18 +1,13 @@
--- When kept traces, and questions over them, are alike.
+-- When kept traces are alike.
 -- Assumes nothing.
 use Prim.Native.Nat.{ℕ}
 use mathlib.Core.Path.{_≡_}
+use mathlib.Core.Bool.{true}
 use mathlib.Core.List.{List}
 use lib.Dec.{eqb}
-use Rattle.base.specs.Lists.{count, equal-lists}
-use Rattle.discovery.specs.Question.{Question}
+use Rattle.base.specs.Lists.{non-empty, count, equal-lists}
 
--- kept traces are alike, whatever their order, when each trace is there equally often
+-- kept traces are alike, whatever their order, when each trace of length 1 or more is there equally often
 abbrev pub Alike : List (List ℕ) → List (List ℕ) → Type 0
-Alike traces traces′ = (trace : List ℕ) → count (equal-lists eqb trace) traces ≡ count (equal-lists eqb trace) traces′
-
--- two questions that differ in the order of their traces alone
-pub record AlikeQuestions (q q′ : Question) : Type 0 where
-  pub activities : q .activities ≡ q′ .activities
-  pub threshold : q .threshold ≡ q′ .threshold
-  pub traces : Alike (q .traces) (q′ .traces)
+Alike kept kept′ =
+    (trace : List ℕ) → non-empty trace ≡ true → count (equal-lists eqb trace) kept ≡ count (equal-lists eqb trace) kept′

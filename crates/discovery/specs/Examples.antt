@@ -1,18 +1,17 @@
--- Document 01's starred runs on the sorting table as one table with one theorem about the definitions; its sample and its two runs beside them.
+-- Document 01's starred runs on the sorting table as one table with one theorem about the definitions; its sample, its two runs and
+-- empty traces (document 02) beside them.
 -- Assumes nothing.
 use Prim.Native.Nat.{ℕ}
 use mathlib.Core.Path.{_≡_, refl}
 use mathlib.Core.Bool.{Bool, true, false}
 use mathlib.Core.List.{List, [], _∷_}
+use Rattle.base.specs.Checks.{Reply, refused, reply}
 use Rattle.declare.specs.declared.Verdict.{Verdict}
 use Rattle.declare.specs.declared.Verdict.the-variants.{Fulfilled, NotActivated, Violated}
 use Rattle.declare.specs.Meaning.{meanings, holds, activated, fulfilled, verdict}
 use Rattle.declare.specs.Constraints.{constraints}
-use Rattle.discovery.specs.Question.{Question, meets, fulfilments, support, listed, replayed, layout}
-use Rattle.discovery.specs.Calls.{find-values}
-
-abbrev pub question : ℕ → List (List ℕ) → ℕ → Question
-question activities traces threshold = record { activities = activities; traces = traces; threshold = threshold }
+use Rattle.discovery.specs.Question.{Question, question-over, meets, fulfilments, support, listed, replayed, layout}
+use Rattle.discovery.specs.Calls.{find-checks, find-values}
 
 -- A row of the table.
 pub data Row : Type 0 where
@@ -22,6 +21,8 @@ pub data Row : Type 0 where
   counted : ℕ → ℕ → List (ℕ × Bool) → Row
   -- a question, the list as it is laid out, and the numbers: listed, replayed, traces
   finds : Question → List ℕ → List ℕ → Row
+  -- a question, a slice lent for the list, and the reply
+  replies : Question → List ℕ → Reply → Row
 
 pub table : List Row
 table =
@@ -34,12 +35,12 @@ table =
     on (0 ∷ 1 ∷ 0 ∷ 1 ∷ []) ((21, Fulfilled) ∷ (22, Fulfilled) ∷ (5, Violated) ∷ []) ∷
     on (2 ∷ []) ((12, NotActivated) ∷ (13, NotActivated) ∷ []) ∷
     counted 3 2 ((666, true) ∷ (667, false) ∷ []) ∷
-    finds (question 1 ([] ∷ []) 1000) (4 ∷ 0 ∷ 0 ∷ 1 ∷ 5 ∷ 0 ∷ 0 ∷ 1 ∷ 6 ∷ 0 ∷ 0 ∷ 1 ∷ []) (3 ∷ 3 ∷ 1 ∷ []) ∷
+    replies (question-over 1 ([] ∷ []) 1000) [] (refused 11 0) ∷
     []
 
 pub sample : List Row
 sample =
-    finds (question 2 ((0 ∷ []) ∷ []) 1000)
+    finds (question-over 2 ((0 ∷ []) ∷ []) 1000)
     (
     1 ∷ 0 ∷ 0 ∷ 1 ∷
     4 ∷ 1 ∷ 1 ∷ 1 ∷
@@ -73,6 +74,7 @@ abbrev pub by-definition : Row → Row
 by-definition (on trace rows) = on trace (verdicts-on trace rows)
 by-definition (counted all number rows) = counted all number (meetings all number rows)
 by-definition (finds q list numbers) = finds q (layout q (listed q)) (find-values q)
+by-definition (replies q list said) = replies q list (reply (find-checks q list) (find-values q))
 
 abbrev pub all-by-definition : List Row → List Row
 all-by-definition [] = []
@@ -86,6 +88,18 @@ pub sample-holds : all-by-definition sample ≡ sample
 unfolding sample constraints fulfilments support listed replayed layout verdict fulfilled activated holds meanings
 sample-holds = refl
 
-pub two-runs : find-values (question 2 ((0 ∷ 1 ∷ []) ∷ (0 ∷ 0 ∷ 1 ∷ []) ∷ []) 1000) ≡ 18 ∷ 44 ∷ 2 ∷ []
+pub two-runs : find-values (question-over 2 ((0 ∷ 1 ∷ []) ∷ (0 ∷ 0 ∷ 1 ∷ []) ∷ []) 1000) ≡ 18 ∷ 44 ∷ 2 ∷ []
 unfolding constraints fulfilments support listed replayed layout fulfilled activated holds meanings
 two-runs = refl
+
+-- beside a trace of length 1 two empty ones count for nothing, though 4 holds on them and 1, 7 and 8 do not
+pub empty-ones : List Row
+empty-ones =
+    finds (question-over 1 ([] ∷ (0 ∷ []) ∷ [] ∷ []) 1000)
+    (1 ∷ 0 ∷ 0 ∷ 1 ∷ 5 ∷ 0 ∷ 0 ∷ 1 ∷ 6 ∷ 0 ∷ 0 ∷ 1 ∷ 7 ∷ 0 ∷ 0 ∷ 1 ∷ 8 ∷ 0 ∷ 0 ∷ 1 ∷ []) (5 ∷ 8 ∷ 1 ∷ []) ∷
+    replies (question-over 1 ([] ∷ [] ∷ []) 1) [] (refused 11 0) ∷
+    []
+
+pub empty-ones-hold : all-by-definition empty-ones ≡ empty-ones
+unfolding empty-ones constraints fulfilments support listed replayed layout verdict fulfilled activated holds meanings
+empty-ones-hold = refl

@@ -2,18 +2,38 @@
 -- Assumes nothing.
 use Prim.Native.Nat.{ℕ, _+_, _*_, _≤_}
 use mathlib.Core.Path.{_≡_}
+use mathlib.Core.Bool.{Bool, true, false}
 use mathlib.Core.List.{List}
 use lib.Dec.{ltb}
 use lib.ListN.{length}
 use lib.Seq.{sets}
 use Rattle.base.specs.Logic.{if_then_else_}
+use Rattle.declare.specs.declared.Verdict.{Verdict}
+use Rattle.declare.specs.declared.Verdict.the-variants.{Fulfilled, NotActivated, Violated}
 use Rattle.declare.specs.declared.constraints.Constraint.{Constraint}
+use Rattle.declare.specs.Automata.{start, advance-all, verdict-by}
+use Rattle.eventlog.specs.Store.{Memory}
+use Rattle.discovery.specs.declared.Measure.{Measure}
 use Rattle.discovery.specs.declared.replay.Replayed.{Replayed}
 use Rattle.discovery.specs.declared.Fit.{Fit}
 use Rattle.discovery.specs.declared.Fit.the-variants.{Fits, Short}
 use Rattle.discovery.specs.declared.list.Tally.{Tally}
 use Rattle.base.specs.Lists.{filter, count}
-use Rattle.discovery.specs.Question.{Question, fulfilments, survives, is-listed, numbers, layout}
+use Rattle.discovery.specs.Question.{Question, asked, trace-count, fulfilments, survives, is-listed, numbers, layout}
+
+-- R is that of what is asked of the memory
+abbrev pub Measured : Memory → Measure → Type 0
+Measured m measure = measure .traces ≡ trace-count (asked m (measure .threshold))
+
+-- a trace is fulfilled where the verdict says so
+abbrev pub is-fulfilled : Verdict → Bool
+is-fulfilled Fulfilled = true
+is-fulfilled NotActivated = false
+is-fulfilled Violated = false
+
+-- replay by moves and verdicts says that a trace is fulfilled
+abbrev pub replays-fulfilled : List ℕ → ℕ → List ℕ → Bool
+replays-fulfilled moves verdicts trace = is-fulfilled (verdict-by verdicts (advance-all moves start trace))
 
 -- a constraint that pruning keeps, replayed over the traces: its fulfilled traces, and one more replayed than before
 pub record Replays (q : Question) (c : Constraint) (replayed : ℕ) (r : Replayed) : Type 0 where

@@ -11,7 +11,7 @@ use Rattle.eventlog.specs.Store.{Memory, kept}
 use Rattle.discovery.specs.declared.classes.Class.{Class}
 use Rattle.discovery.specs.declared.classes.Class.the-variants.{WithA, All, Either, Both}
 use Rattle.declare.specs.declared.constraints.Constraint.{Constraint}
-use Rattle.base.specs.Lists.{filter, count, flat-map}
+use Rattle.base.specs.Lists.{non-empty, filter, count, flat-map}
 use Rattle.declare.specs.Constraints.{constraints}
 
 -- A question to the finder: how many activities are declared, the traces, and the threshold.
@@ -20,11 +20,15 @@ pub record Question : Type 0 where
   pub traces : List (List ℕ)
   pub threshold : ℕ
 
+-- R, all counts and the pruning numbers are taken over runs of length 1 or more: of the kept traces a question has those
+abbrev pub question-over : ℕ → List (List ℕ) → ℕ → Question
+question-over activities kept threshold = record { activities = activities; traces = filter non-empty kept; threshold = threshold }
+
 -- what find asks of a memory
 abbrev pub asked : Memory → ℕ → Question
-asked m threshold = record { activities = m .store .activities; traces = kept m; threshold = threshold }
+asked m threshold = question-over (m .store .activities) (kept m) threshold
 
--- how many traces there are (document 01: R)
+-- how many traces a question has (document 01: R)
 abbrev pub trace-count : Question → ℕ
 trace-count q = length (q .traces)
 

@@ -1,9 +1,12 @@
 // Pruning: the classes of constraints, their support, and what is kept.
 ghost use mathlib.Core.Path.{_≡_};
 ghost use mathlib.Core.Bool.{true};
+ghost use Rattle.base.specs.Lists.{non-empty, filter, count as count-of};
 ghost use Rattle.declare.specs.Meaning.{occurs as occurs-in};
 ghost use Rattle.eventlog.specs.Store.{lent, sound, kept};
 ghost use Rattle.discovery.specs.Question.{asked, class-of, counts-for, always as always-test, support as support-of, survives as survives-test, meets as meets-test};
+ghost use Rattle.discovery.specs.Passes.{Measured};
+use crate::Measure;
 use declare::Constraint;
 use eventlog::Store;
 
@@ -64,11 +67,11 @@ fn counts_for(class: Class, a: u8, b: u8, trace: &[u8]) -> bool
     }
 }
 
-// How many kept traces count for the constraint's class.
+// How many kept traces of length 1 or more count for the constraint's class.
 fn support(store: Store, events: &[u8], ends: &[u32], class: Class, c: Constraint) -> u32
     requires { ⌜ sound (lent store events ends) ≡ true ⌝ }
     requires { ⌜ class ≡ class-of (c .template) ⌝ }
-    ensures { λ r. ⌜ r ≡ support-of (kept (lent store (events .entry) (ends .entry))) c ⌝ }
+    ensures { λ r. ⌜ r ≡ support-of (filter non-empty (kept (lent store (events .entry) (ends .entry)))) c ⌝ }
 {
     let kept = store.traces as usize;
     let mut count: u32 = 0;
@@ -76,7 +79,29 @@ fn support(store: Store, events: &[u8], ends: &[u32], class: Class, c: Constrain
     let mut k: usize = 0;
     while k < kept {
         let end = ends[k] as usize;
-        if counts_for(class, c.a, c.b, &events[start..end]) {
+        let trace = &events[start..end];
+        if 0 < trace.len() && counts_for(class, c.a, c.b, trace) {
+            count += 1;
+        }
+        start = end;
+        k += 1;
+    }
+    count
+}
+
+// R: how many kept traces are of length 1 or more.
+pub(crate) fn trace_count(store: Store, events: &[u8], ends: &[u32]) -> u32
+    requires { ⌜ sound (lent store events ends) ≡ true ⌝ }
+    ensures { λ r. ⌜ r ≡ count-of non-empty (kept (lent store (events .entry) (ends .entry))) ⌝ }
+{
+    let kept = store.traces as usize;
+    let mut count: u32 = 0;
+    let mut start: usize = 0;
+    let mut k: usize = 0;
+    while k < kept {
+        let end = ends[k] as usize;
+        let trace = &events[start..end];
+        if 0 < trace.len() {
             count += 1;
         }
         start = end;
@@ -86,10 +111,10 @@ fn support(store: Store, events: &[u8], ends: &[u32], class: Class, c: Constrain
 }
 
 // 1000 times the number is at least the threshold times all; nothing is rounded.
-pub(crate) fn meets(threshold: u32, all: u32, number: u32) -> bool
-    ensures { λ r. ⌜ r ≡ meets-test threshold all number ⌝ }
+pub(crate) fn meets(measure: Measure, number: u32) -> bool
+    ensures { λ r. ⌜ r ≡ meets-test (measure .threshold) (measure .traces) number ⌝ }
 {
-    (threshold as u64) * (all as u64) <= 1000 * (number as u64)
+    (measure.threshold as u64) * (measure.traces as u64) <= 1000 * (number as u64)
 }
 
 // Whether a class is kept by pruning whatever its support.
@@ -109,17 +134,18 @@ pub(crate) fn survives(
     store: Store,
     events: &[u8],
     ends: &[u32],
-    threshold: u32,
+    measure: Measure,
     class: Class,
     c: Constraint,
 ) -> bool
     requires { ⌜ sound (lent store events ends) ≡ true ⌝ }
+    requires { ⌜ Measured (lent store events ends) measure ⌝ }
     requires { ⌜ class ≡ class-of (c .template) ⌝ }
-    ensures { λ r. ⌜ r ≡ survives-test (asked (lent store (events .entry) (ends .entry)) threshold) c ⌝ }
+    ensures { λ r. ⌜ r ≡ survives-test (asked (lent store (events .entry) (ends .entry)) (measure .threshold)) c ⌝ }
 {
     if always(class) {
         return true;
     }
     let counted = support(store, events, ends, class, c);
-    meets(threshold, store.traces, counted)
+    meets(measure, counted)
 }

@@ -9,7 +9,7 @@ ghost use lib.ListN.{length};
 ghost use Rattle.eventlog.specs.Store.{lent, sound};
 ghost use Rattle.discovery.specs.Question.{asked, listed};
 ghost use Rattle.discovery.specs.Calls.{Finds, in-range as in-range-test};
-ghost use Rattle.discovery.specs.Passes.{fit-of};
+ghost use Rattle.discovery.specs.Passes.{Measured, fit-of};
 use eventlog::Refusal;
 use eventlog::Store;
 
@@ -25,12 +25,19 @@ pub const LIST_TOO_SHORT: u8 = 10;
 
 pub const NO_TRACE: u8 = 11;
 
+// What a count is measured by: the threshold, and R, which is counted once a find.
+pub struct Measure {
+    pub threshold: u32,
+    pub traces: u32,
+}
+
 // Whether the list fits the slice; if not, how many constraints are to be listed.
 pub enum Fit {
     Fits,
     Short(usize),
 }
 
+// The constraints listed, those replayed, and R: how many kept traces are of length 1 or more.
 pub struct Found {
     pub constraints: u32,
     pub replayed: u32,
@@ -43,16 +50,17 @@ pub enum FindAnswer {
 }
 
 // Looks whether the list fits, and leaves the slice as it was. Where there is room for all constraints, nothing is replayed for it.
-fn look(store: Store, events: &[u8], ends: &[u32], threshold: u32, list: &mut [u16]) -> Fit
+fn look(store: Store, events: &[u8], ends: &[u32], measure: Measure, list: &mut [u16]) -> Fit
     requires { ⌜ sound (lent store events ends) ≡ true ⌝ }
-    ensures { λ r. ⌜ r ≡ fit-of (length (listed (asked (lent store (events .entry) (ends .entry)) threshold))) (now (list .entry)) ⌝ }
+    requires { ⌜ Measured (lent store events ends) measure ⌝ }
+    ensures { λ r. ⌜ r ≡ fit-of (length (listed (asked (lent store (events .entry) (ends .entry)) (measure .threshold)))) (now (list .entry)) ⌝ }
     ensures { λ r. ⌜ now (list .exit) ≡ now (list .entry) ⌝ }
 {
     let all = declare::constraint_count(store.activities as u8);
     if all as usize <= list.len() / NUMBERS {
         return Fit::Fits;
     }
-    let needed = list::pass(store, events, ends, threshold, &mut list[0..0]);
+    let needed = list::pass(store, events, ends, measure, &mut list[0..0]);
     let listed = needed.listed as usize;
     if list.len() < NUMBERS * listed {
         return Fit::Short(listed);
@@ -89,18 +97,19 @@ pub fn find(
     if !in_range(threshold) {
         return refused(THRESHOLD_OUT_OF_RANGE, 0);
     }
-    let traces = store.traces;
+    let traces = classes::trace_count(store, events, ends);
     if traces == 0 {
         return refused(NO_TRACE, 0);
     }
-    let fit = look(store, events, ends, threshold, list);
+    let measure = Measure { threshold, traces };
+    let fit = look(store, events, ends, measure, list);
     match fit {
         Fit::Short(needed) => {
             return refused(LIST_TOO_SHORT, needed);
         }
         Fit::Fits => {}
     }
-    let found = list::pass(store, events, ends, threshold, list);
+    let found = list::pass(store, events, ends, measure, list);
     FindAnswer::Listed(Found {
         constraints: found.listed,
         replayed: found.replayed,

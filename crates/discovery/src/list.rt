@@ -9,7 +9,8 @@ ghost use Rattle.declare.specs.Automata.{automaton as automaton-of};
 ghost use Rattle.declare.specs.Constraints.{constraints, Over};
 ghost use Rattle.eventlog.specs.Store.{lent, sound};
 ghost use Rattle.discovery.specs.Question.{asked, numbers, survives as survives-test};
-ghost use Rattle.discovery.specs.Passes.{Passes, AtMostAll, none-yet};
+ghost use Rattle.discovery.specs.Passes.{Measured, Passes, AtMostAll, none-yet};
+use crate::Measure;
 use crate::NUMBERS;
 use crate::classes;
 use crate::replay;
@@ -61,23 +62,32 @@ fn consider(
     store: Store,
     events: &[u8],
     ends: &[u32],
-    threshold: u32,
+    measure: Measure,
     list: &mut [u16],
     tally: Tally,
     automaton: Automaton,
     c: Constraint,
 ) -> Tally
     requires { ⌜ sound (lent store events ends) ≡ true ⌝ }
-    requires { ⌜ survives-test (asked (lent store events ends) threshold) c ≡ true ⌝ }
+    requires { ⌜ Measured (lent store events ends) measure ⌝ }
+    requires { ⌜ survives-test (asked (lent store events ends) (measure .threshold)) c ≡ true ⌝ }
     requires { ⌜ Over (store .activities) c ⌝ }
     requires { ⌜ automaton ≡ automaton-of (c .template) ⌝ }
     requires { ⌜ (AtMostAll (store .activities) (tally .listed)) × (AtMostAll (store .activities) (tally .replayed)) ⌝ }
-    ensures { λ r. ⌜ Passes (asked (lent store (events .entry) (ends .entry)) threshold) (c ∷ []) tally (now (list .entry)) r (now (list .exit)) ⌝ }
+    ensures { λ r. ⌜ Passes (asked (lent store (events .entry) (ends .entry)) (measure .threshold)) (c ∷ []) tally (now (list .entry)) r (now (list .exit)) ⌝ }
 {
-    let outcome = replay::replay(store, events, ends, threshold, automaton, c, tally.replayed);
+    let outcome = replay::replay(
+        store,
+        events,
+        ends,
+        measure.threshold,
+        automaton,
+        c,
+        tally.replayed,
+    );
     let fulfilled = outcome.fulfilled;
     let replayed = outcome.replayed;
-    if !classes::meets(threshold, store.traces, fulfilled) {
+    if !classes::meets(measure, fulfilled) {
         return Tally {
             listed: tally.listed,
             replayed,
@@ -96,11 +106,12 @@ pub(crate) fn pass(
     store: Store,
     events: &[u8],
     ends: &[u32],
-    threshold: u32,
+    measure: Measure,
     list: &mut [u16],
 ) -> Tally
     requires { ⌜ sound (lent store events ends) ≡ true ⌝ }
-    ensures { λ r. ⌜ Passes (asked (lent store (events .entry) (ends .entry)) threshold) (constraints (store .activities)) none-yet (now (list .entry)) r (now (list .exit)) ⌝ }
+    requires { ⌜ Measured (lent store events ends) measure ⌝ }
+    ensures { λ r. ⌜ Passes (asked (lent store (events .entry) (ends .entry)) (measure .threshold)) (constraints (store .activities)) none-yet (now (list .entry)) r (now (list .exit)) ⌝ }
 {
     let n = store.activities as u8;
     let all = declare::constraint_count(n);
@@ -114,10 +125,10 @@ pub(crate) fn pass(
     let mut automaton = declare::no_automaton();
     let mut place: u32 = 0;
     while place < all {
-        if classes::survives(store, events, ends, threshold, class, c) {
+        if classes::survives(store, events, ends, measure, class, c) {
             automaton = at_hand(automaton, known, c.template);
             known = c.template;
-            found = consider(store, events, ends, threshold, list, found, automaton, c);
+            found = consider(store, events, ends, measure, list, found, automaton, c);
         }
         let next = declare::next_constraint(n, c);
         class = classes::class_next(class, c.template, next.template);

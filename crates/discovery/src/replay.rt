@@ -1,11 +1,12 @@
 // Replay of a constraint over the store's traces.
 ghost use mathlib.Core.Path.{_≡_};
 ghost use mathlib.Core.Bool.{true};
+ghost use Rattle.base.specs.Lists.{non-empty};
 ghost use Rattle.declare.specs.Automata.{automaton as automaton-of, moves-of};
 ghost use Rattle.declare.specs.Constraints.{Over};
-ghost use Rattle.eventlog.specs.Store.{lent, sound, kept};
+ghost use Rattle.eventlog.specs.Store.{lent, sound};
 ghost use Rattle.discovery.specs.Question.{asked, fulfilments, survives as survives-test};
-ghost use Rattle.discovery.specs.Passes.{Replays, AtMostAll};
+ghost use Rattle.discovery.specs.Passes.{replays-fulfilled, Replays, AtMostAll};
 use declare::Automaton;
 use declare::Constraint;
 use declare::Verdict;
@@ -17,8 +18,20 @@ pub struct Replayed {
     pub replayed: u32,
 }
 
-// How many kept traces are fulfilled for a constraint that pruning keeps, by its moves and its automaton's verdicts. Each trace is
-// handed on as the part of the events from the end before to its own.
+// Whether a trace is fulfilled, by a constraint's moves and its automaton's verdicts. An empty trace is handed to no replayer.
+fn is_fulfilled(moves: &[u64; 32], verdicts: u64, trace: &[u8]) -> bool
+    requires { ⌜ non-empty (now trace) ≡ true ⌝ }
+    ensures { λ r. ⌜ r ≡ replays-fulfilled (now (moves .entry)) verdicts (now (trace .entry)) ⌝ }
+{
+    match declare::replay_by(moves, verdicts, trace) {
+        Verdict::Fulfilled => true,
+        Verdict::NotActivated => false,
+        Verdict::Violated => false,
+    }
+}
+
+// How many kept traces of length 1 or more are fulfilled for a constraint that pruning keeps. Each trace is handed on as the part of the
+// events from the end before to its own.
 fn fulfilled_by(
     moves: &[u64; 32],
     verdicts: u64,
@@ -33,7 +46,7 @@ fn fulfilled_by(
     requires { ⌜ sound (lent store events ends) ≡ true ⌝ }
     requires { ⌜ Over (store .activities) c ⌝ }
     requires { ⌜ survives-test (asked (lent store events ends) threshold) c ≡ true ⌝ }
-    ensures { λ r. ⌜ r ≡ fulfilments (kept (lent store (events .entry) (ends .entry))) c ⌝ }
+    ensures { λ r. ⌜ r ≡ fulfilments (asked (lent store (events .entry) (ends .entry)) threshold .traces) c ⌝ }
 {
     let traces = store.traces as usize;
     let mut fulfilled: u32 = 0;
@@ -41,11 +54,9 @@ fn fulfilled_by(
     let mut k: usize = 0;
     while k < traces {
         let to = ends[k] as usize;
-        let verdict = declare::replay_by(moves, verdicts, &events[from..to]);
-        match verdict {
-            Verdict::Fulfilled => fulfilled += 1,
-            Verdict::NotActivated => {}
-            Verdict::Violated => {}
+        let trace = &events[from..to];
+        if 0 < trace.len() && is_fulfilled(moves, verdicts, trace) {
+            fulfilled += 1;
         }
         from = to;
         k += 1;

@@ -17,7 +17,7 @@ use Rattle.eventlog.proofs.Adding as adding
 use Rattle.columns.specs.Log.{log-checks, spelled}
 use Rattle.columns.specs.Calls.{read-said}
 use Rattle.columns.proofs.ReadContract as reading
-use Rattle.discovery.specs.Question.{Question, asked}
+use Rattle.discovery.specs.Question.{Question, question-over, asked}
 use Rattle.discovery.specs.Calls.{find-checks, find-values, with-list}
 use Rattle.history.specs.Ledger.{Call, open-for, add, read, find, Shown, only, Ledger, first-ledger, room-beside, question, after, shows, with-all}
 use Rattle.history.specs.Histories.{Called, Fresh, opened, Keeps}
@@ -135,7 +135,7 @@ module _ (space : Room) (l : Ledger) (m : Memory) (k : Keeps space l m) where
   pub find-shows : (threshold : ℕ) (list : List ℕ) (s : Shown) (m′ : Memory) → Called m (find threshold list) s m′ → s ≡ shows space l (find threshold list)
   find-shows threshold list s m′ (answer, finds, said, left) =
       let q = asked m threshold in
-      let same : q ≡ question l threshold = λ i. record { activities = k .same-room i .activities; traces = k .traces i; threshold = threshold } in
+      let same : q ≡ question l threshold = λ i. question-over (k .same-room i .activities) (k .traces i) threshold in
       let says =
       said ∙ finds .says ∙ sound-reply m (k .is-sound) (find-checks q list) (find-values q)
       ∙ ap (λ (q : Question). reply (find-checks q list) (find-values q)) same in

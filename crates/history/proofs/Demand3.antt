@@ -1,20 +1,21 @@
 -- Demand 3: one theorem about all histories. Each call is known by its contract's record alone.
 -- Assumes nothing.
 use Prim.Native.Nat.{ℕ, _*_}
-use mathlib.Core.Path.{_≡_, refl, sym, ap₂, subst, transport, _∙_}
+use mathlib.Core.Path.{_≡_, refl, sym, ap, ap₂, subst, transport, _∙_}
 use mathlib.Core.List.{List, [], _∷_, _++_}
 use lib.ListN.{length, take, getElem?}
+use lib.Dec.{eqb}
+use Rattle.base.specs.Lists.{non-empty, filter, count, equal-lists}
 use Rattle.base.specs.Checks.{gives}
 use Rattle.eventlog.specs.declared.Room.{Room}
 use Rattle.eventlog.specs.Store.{Memory, room}
 use Rattle.declare.specs.declared.constraints.Constraint.{Constraint}
 use Rattle.discovery.specs.Question.{trace-count, numbers, layout}
 use Rattle.declare.specs.Constraints.{Exactly}
-use Rattle.discovery.specs.Claims.{AlikeQuestions}
 use Rattle.declare.proofs.constraints.Members.{exactly-one}
-use Rattle.discovery.proofs.Orderless.{trace-count-alike, is-listed-alike, survives-alike, layout-alike}
+use Rattle.discovery.proofs.Orderless.{without-empty, question-over-alike, trace-count-alike, is-listed-alike, survives-alike, layout-alike}
 use Rattle.history.specs.Ledger.{Call, open-for, add, read, find, Shown, Ledger, first-ledger, after}
-use Rattle.history.specs.Histories.{Called, Fresh, History, after-all, ledger-after, shows-all, ledger-shows, Never-1, Keeps, FindIn, question-of, Right, Accepted, EqualFinds, FindAt, Demand3}
+use Rattle.history.specs.Histories.{Called, Fresh, History, after-all, ledger-after, shows-all, ledger-shows, Never-1, Keeps, FindIn, ledger-of, question-of, Right, Accepted, AlikeFinds, EqualFinds, FindAt, Demand3}
 use Rattle.history.proofs.Replies.{ledger-never-1}
 use Rattle.history.proofs.CallSteps.{fresh-keeps, Follows, open-follows, add-follows, read-follows, find-shows, find-follows}
 use Rattle.history.proofs.Finds.{shows-right, right-gives}
@@ -53,15 +54,29 @@ ledger-never-1-all space l (c ∷ cs) = (ledger-never-1 space l c, ledger-never-
 found-right : (f : FindIn) → Right (question-of f) (f .list) (f .shown)
 found-right f =
     let space = room (f .start) in
-    let l = ledger-after (f .start) (f .before) in
+    let l = ledger-of f in
     let k = from-fresh (f .start) (f .memory) (f .before) (f .shown-before) (f .is-fresh) (f .history) .1 in
     let shown = find-shows space l (f .memory) k (f .threshold) (f .list) (f .shown) (f .memory′) (f .called) in
     subst (λ (s : Shown). Right (question-of f) (f .list) s) (sym shown) (shows-right space l (f .threshold) (f .list))
 
-found-alike : (f g : FindIn) → Accepted f → Accepted g → AlikeQuestions (question-of f) (question-of g) → EqualFinds f g
-found-alike f g (values, given) (values′, given′) alike =
+-- finds are alike by their traces of length 1 or more, however many empty ones either keeps
+pub alike-beside-empty :
+    (f g : FindIn) → ledger-of f .activities ≡ ledger-of g .activities → f .threshold ≡ g .threshold →
+    filter non-empty (ledger-of f .traces) ≡ filter non-empty (ledger-of g .traces) → AlikeFinds f g
+alike-beside-empty f g activities threshold e =
+    record {
+      activities = activities;
+      threshold = threshold;
+      traces =
+          λ t some.
+          sym (without-empty (ledger-of f .traces) t some) ∙ ap (count (equal-lists eqb t)) e ∙ without-empty (ledger-of g .traces) t some;
+    }
+
+found-alike : (f g : FindIn) → Accepted f → Accepted g → AlikeFinds f g → EqualFinds f g
+found-alike f g (values, given) (values′, given′) same =
     let q = question-of f in
     let q′ = question-of g in
+    let alike = question-over-alike (ledger-of f .traces) (ledger-of g .traces) (same .activities) (same .threshold) (same .traces) in
     let r = found-right f in
     let r′ = found-right g in
     let a = right-gives q (f .list) (f .shown) r values given in

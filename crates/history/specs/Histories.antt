@@ -18,7 +18,7 @@ use Rattle.eventlog.specs.Calls.{Opens, open-said, Adds, add-said}
 use Rattle.columns.specs.Calls.{Reads, read-said}
 use Rattle.discovery.specs.Question.{Question, trace-count, is-listed, survives, numbers, layout}
 use Rattle.declare.specs.Constraints.{Exactly}
-use Rattle.discovery.specs.Claims.{AlikeQuestions}
+use Rattle.discovery.specs.Claims.{Alike}
 use Rattle.discovery.specs.Calls.{checks-for, Finds, find-said}
 use Rattle.history.specs.Ledger.{Call, open-for, add, read, find, Shown, only, Ledger, first-ledger, room-beside, question, after, shows}
 
@@ -96,9 +96,13 @@ pub record FindIn : Type 0 where
   pub memory′ : Memory
   pub called : Called memory (find threshold list) shown memory′
 
+-- the ledger before it
+abbrev pub ledger-of : FindIn → Ledger
+ledger-of f = ledger-after (f .start) (f .before)
+
 -- what it asks, by the ledger
 abbrev pub question-of : FindIn → Question
-question-of f = question (ledger-after (f .start) (f .before)) (f .threshold)
+question-of f = question (ledger-of f) (f .threshold)
 
 -- What a find shows. `listed` has exactly the constraints whose count meets the threshold and `replayed` exactly those that pruning
 -- keeps, each in the stated order and once. The find is refused as it says, a list too short with the number needed; or it gives the
@@ -117,6 +121,12 @@ pub record Right (q : Question) (list : List ℕ) (shown : Shown) : Type 0 where
 -- the find was accepted
 abbrev pub Accepted : FindIn → Type 0
 Accepted f = (values : List ℕ) × (f .shown .said ≡ gives values)
+
+-- two finds alike in N, threshold and kept traces of length 1 or more, whatever their order and however many empty ones either keeps
+pub record AlikeFinds (f g : FindIn) : Type 0 where
+  pub activities : ledger-of f .activities ≡ ledger-of g .activities
+  pub threshold : f .threshold ≡ g .threshold
+  pub traces : Alike (ledger-of f .traces) (ledger-of g .traces)
 
 -- two finds give equal lists and numbers
 pub record EqualFinds (f g : FindIn) : Type 0 where
@@ -151,5 +161,5 @@ pub record Demand3 : Type 0 where
       History m (before ++ (find threshold list ∷ later)) ss last → FindAt m before threshold list ss
   -- every find gives the ledger's list and numbers, or is refused as the ledger says
   pub right : (f : FindIn) → Right (question-of f) (f .list) (f .shown)
-  -- accepted finds alike in N, threshold and kept traces, whatever their order, give equal lists and numbers, in one history or in two
-  pub alike : (f g : FindIn) → Accepted f → Accepted g → AlikeQuestions (question-of f) (question-of g) → EqualFinds f g
+  -- accepted finds that are alike give equal lists and numbers, in one history or in two
+  pub alike : (f g : FindIn) → Accepted f → Accepted g → AlikeFinds f g → EqualFinds f g

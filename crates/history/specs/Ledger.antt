@@ -8,7 +8,7 @@ use Rattle.eventlog.specs.declared.Room.{Room}
 use Rattle.eventlog.specs.Store.{total}
 use Rattle.eventlog.specs.Calls.{open-checks, add-checks}
 use Rattle.columns.specs.Log.{log-checks, spelled}
-use Rattle.discovery.specs.Question.{Question}
+use Rattle.discovery.specs.Question.{Question, question-over}
 use Rattle.discovery.specs.Calls.{find-checks, find-values, with-list}
 
 -- A call, with what it brings: a step count, a trace, a log's bytes, or a threshold and what stands in the slice lent for the list.
@@ -46,8 +46,9 @@ room-beside space l =
       ends = space .ends;
     }
 
+-- what a find asks of it: of its traces those of length 1 or more
 abbrev pub question : Ledger → ℕ → Question
-question l threshold = record { activities = l .activities; traces = l .traces; threshold = threshold }
+question l threshold = question-over (l .activities) (l .traces) threshold
 
 abbrev pub with-all : Ledger → List (List ℕ) → Ledger
 with-all l traces = record { activities = l .activities; traces = l .traces ++ traces }

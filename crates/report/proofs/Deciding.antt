@@ -15,10 +15,9 @@ use Rattle.eventlog.specs.Store.{declarable}
 use Rattle.eventlog.specs.Calls.{open-checks, Opens}
 use Rattle.columns.specs.Log.{log-checks}
 use Rattle.discovery.specs.declared.FindAnswer.{FindAnswer}
-use Rattle.discovery.specs.Question.{Question}
 use Rattle.discovery.specs.Calls.{in-range, threshold-check}
 use Rattle.report.specs.declared.Settings.{Settings}
-use Rattle.report.specs.Report.{most-input, threshold-set, log-of, log-question, room-lent, checks-to-read, Lent}
+use Rattle.report.specs.Report.{most-input, threshold-set, log-of, room-lent, checks-to-read, Lent}
 use Rattle.report.specs.Stages.{settings-of, Decides, Decided}
 use Rattle.report.proofs.SettingsLine.{LaidOut, malformed-by}
 use Rattle.report.proofs.Reading.{refusal-decides}
@@ -38,8 +37,8 @@ opened n store o =
     }
 
 check-passes :
-    {c : Check} {checks : List Check} {q : Question} {arrays : Lent} {answer : FindAnswer} {arrays′ : Lent} →
-    c .fails ≡ false → Decides checks q arrays answer arrays′ → Decides (c ∷ checks) q arrays answer arrays′
+    {c : Check} {checks : List Check} {n threshold : ℕ} {log : List ℕ} {arrays : Lent} {answer : FindAnswer} {arrays′ : Lent} →
+    c .fails ≡ false → Decides checks n threshold log arrays answer arrays′ → Decides (c ∷ checks) n threshold log arrays answer arrays′
 check-passes passes d = record { says = rw passes (d .says); leaves = rw passes (d .leaves); fits = d .fits }
 
 module _ (input : List ℕ) (arrays : Lent) where
@@ -69,7 +68,7 @@ module _ (input : List ℕ) (arrays : Lent) where
         -- the four pass, and the answer is that to the log
         pub goes-on :
             (log : List ℕ) {answer : FindAnswer} {arrays′ : Lent} → in-range threshold ≡ true → log ≡ log-of input →
-            Decides (log-checks (room-lent n) log) (log-question n threshold log) arrays answer arrays′ → Decided input arrays answer arrays′
+            Decides (log-checks (room-lent n) log) n threshold log arrays answer arrays′ → Decided input arrays answer arrays′
         unfolding checks-to-read
         goes-on log h e d =
             let d′ = rw (e, l .activities, l .threshold-is) at d in

@@ -8,6 +8,8 @@ use mathlib.Core.List.{List, [], _∷_}
 use borrow.Author.Tests.{ltb-false}
 use lib.ListN.{length, length-replicate}
 use lib.Seq.{length-sets}
+use Rattle.base.specs.Lists.{non-empty}
+use Rattle.base.proofs.Lists.{filter-all}
 use Rattle.base.specs.Checks.{Check, refused, reply, when-passed}
 use Rattle.base.proofs.Checks.{None-fail, none-fail, none-fail-reply, given-new, refused-same, outcome, when-passed-leaving, outcome-append, reply-after, left-after, passed-giving}
 use Rattle.eventlog.specs.declared.Refusal.{Refusal}
@@ -16,7 +18,7 @@ use Rattle.eventlog.proofs.Laws.{fresh-sound, fresh-kept}
 use Rattle.columns.specs.declared.ReadAnswer.{ReadAnswer}
 use Rattle.columns.specs.Log.{log-checks, spelled}
 use Rattle.columns.specs.Calls.{checks-of-read, with-traces, Reads}
-use Rattle.columns.proofs.Laws.{sound-read, kept-read}
+use Rattle.columns.proofs.Laws.{sound-read, kept-read, spelled-non-empty}
 use Rattle.columns.proofs.ReadContract.{after-refused}
 use Rattle.columns.proofs.Traces.{activities-traces}
 use Rattle.discovery.specs.declared.FindAnswer.{FindAnswer}
@@ -36,15 +38,20 @@ length-lent = length-replicate {A = ℕ} (numbers * lent-constraints) 0
 
 -- what the checks up to the find refuse is the answer
 pub refusal-decides :
-    {checks : List Check} {q : Question} {arrays : Lent} (refusal : Refusal) → outcome checks ≡ refused (refusal .number) (refusal .detail) →
-    Decides checks q arrays (FindAnswer.Refused refusal) arrays
-refusal-decides {checks} {q} refusal e =
+    {checks : List Check} {n threshold : ℕ} {log : List ℕ} {arrays : Lent} (refusal : Refusal) →
+    outcome checks ≡ refused (refusal .number) (refusal .detail) → Decides checks n threshold log arrays (FindAnswer.Refused refusal) arrays
+refusal-decides {checks} {n} {threshold} {log} refusal e =
+    let q = log-question n threshold log in
     let all : outcome (then-find checks q) ≡ refused (refusal .number) (refusal .detail) = outcome-append checks (find-checks q lent-list) ∙ rw e in
     record {
       says = sym (refused-same (then-find checks q) [] (find-values q) _ _ all);
       leaves = rw (when-passed-leaving checks, when-passed-leaving (then-find checks q), e, all);
       fits = omega arith;
     }
+
+-- a log spells no empty trace: what is asked over it has all that it spells
+pub asked-of-all : (n threshold : ℕ) (log : List ℕ) → log-question n threshold log .traces ≡ spelled log
+asked-of-all n threshold log = filter-all non-empty (spelled log) (spelled-non-empty log)
 
 -- ## The find, after checks that pass
 
@@ -119,7 +126,7 @@ module _ (n threshold : ℕ) (log : List ℕ) (declared : declarable n ≡ true)
     pub added-decides :
         (added : ℕ) (answer : FindAnswer) (list′ : List ℕ) → length (arrays .list) ≡ numbers * lent-constraints →
         Reads empty log (ReadAnswer.Added added) after → Finds after threshold (arrays .list) answer list′ →
-        Decides checks q arrays answer (record { events = after .events; ends = after .ends; list = list′ })
+        Decides checks n threshold log arrays answer (record { events = after .events; ends = after .ends; list = list′ })
     added-decides added answer list′ room reads finds =
         let given = sym (reads .says) in
         let none : None-fail checks = rw room-is-lent at (none-fail (checks-of-read empty log) _ _ given .1) in
@@ -140,7 +147,7 @@ module _ (n threshold : ℕ) (log : List ℕ) (declared : declarable n ≡ true)
     -- a refused read
     pub not-added-decides :
         (refusal : Refusal) → Reads empty log (ReadAnswer.Refused refusal) after →
-        Decides checks q arrays (FindAnswer.Refused refusal) (record { events = after .events; ends = after .ends; list = arrays .list })
+        Decides checks n threshold log arrays (FindAnswer.Refused refusal) (record { events = after .events; ends = after .ends; list = arrays .list })
     not-added-decides refusal reads =
         rw (after-refused empty log (ReadAnswer.Refused refusal) after reads _ _ refl)
         (refusal-decides refusal

@@ -17,7 +17,7 @@ use Rattle.discovery.specs.Calls.{find-values, with-list}
 use Rattle.discovery.proofs.Listing.{layout-length}
 use Rattle.report.specs.Print.{constraint-line, found-text}
 use Rattle.report.specs.Puts.{Puts, lines-of}
-use Rattle.report.specs.Report.{question-set, then-find, checks-to-read, checks-of-report, printed, output-of, Lent, Reports}
+use Rattle.report.specs.Report.{activities-set, threshold-set, log-of, log-question, then-find, checks-to-read, checks-of-report, printed, output-of, Lent, Reports}
 use Rattle.report.specs.Stages.{Decides, Decided, answer-text}
 use Rattle.report.proofs.Puts.{put-same}
 
@@ -39,11 +39,14 @@ module _ (q : Question) where
 
 -- ## An answer
 
-module _ (checks : List Check) (q : Question) (arrays arrays′ : Lent) where
+module _ (checks : List Check) (n threshold : ℕ) (log : List ℕ) (arrays arrays′ : Lent) where
+  abbrev q : Question
+  q = log-question n threshold log
+
   abbrev text : List ℕ
   text = printed (reply (then-find checks q) []) (found-text q)
 
-  answer-printed : (answer : FindAnswer) → Decides checks q arrays answer arrays′ → answer-text answer (arrays′ .list) ≡ text
+  answer-printed : (answer : FindAnswer) → Decides checks n threshold log arrays answer arrays′ → answer-text answer (arrays′ .list) ≡ text
   unfolding found-text
   answer-printed (FindAnswer.Listed found) d =
       let given = passed-giving (then-find checks q) (find-values q) _ (d .says) in
@@ -66,7 +69,7 @@ pub printed-reports :
     Reports input arrays out written arrays′ out′
 unfolding checks-of-report output-of
 printed-reports input arrays arrays′ answer {out} d puts =
-    let same = answer-printed (checks-to-read input) (question-set input) arrays arrays′ answer d in
+    let same = answer-printed (checks-to-read input) (activities-set input) (threshold-set input) (log-of input) arrays arrays′ answer d in
     let p = put-same same puts in
     record {
       counts = p .follows ∙ zero-add (length (output-of input));

@@ -7,12 +7,13 @@ use mathlib.Core.Bool.{true}
 use mathlib.Core.List.{List, [], _∷_}
 use borrow.Author.Tests.{ltb-false, not-false}
 use lib.ListN.{length, replicate, length-replicate, length-drop, drop}
+use Rattle.base.specs.Lists.{non-empty}
 use Rattle.base.specs.Checks.{refused, reply}
 use Rattle.base.proofs.Checks.{None-fail, none-fail, none-fail-both, Each, each-append, refused-each}
 use Rattle.base.proofs.Lists.{count-at-most}
 use Rattle.declare.specs.Meaning.{fulfilled}
 use Rattle.eventlog.specs.declared.Room.{Room}
-use Rattle.eventlog.specs.Store.{most-activities, declarable}
+use Rattle.eventlog.specs.Store.{most-activities, declarable, kept}
 use Rattle.eventlog.proofs.Laws.{declared-range, kept-length, sound-facts}
 use Rattle.columns.specs.Log.{Line, Before, nothing-read, with-line, lines-within, lines, log-checks-from, log-checks, spelled}
 use Rattle.columns.specs.Calls.{with-traces}
@@ -113,7 +114,10 @@ unfolding some-arrays
 buffers = record { events = length-replicate {A = ℕ} lent-events 0; ends = length-replicate {A = ℕ} lent-ends 0 }
 
 module _ (n threshold : ℕ) (log : List ℕ) (declared : declarable n ≡ true) (none : None-fail (log-checks (room-lent n) log)) where
-  traces-few : length (spelled log) ≤ 4095
+  abbrev q : Question
+  q = log-question n threshold log
+
+  traces-few : length (q .traces) ≤ 4095
   traces-few =
       let m = with-traces (empty-store n some-arrays) (spelled log) in
       let f = filled n threshold log declared some-arrays buffers none in
@@ -121,16 +125,16 @@ module _ (n threshold : ℕ) (log : List ℕ) (declared : declarable n ≡ true)
         arith,
         kept-length m (f .is-sound),
         sound-facts m (f .is-sound) .few-traces,
+        count-at-most non-empty (kept m),
         ap (λ (q : Question). length (q .traces)) (f .asks),
       )
 
-  fulfilled-few : (c : Constraint) → fulfilments (spelled log) c ≤ 4095
+  fulfilled-few : (c : Constraint) → fulfilments (q .traces) c ≤ 4095
   unfolding fulfilments
-  fulfilled-few c = omega (arith, traces-few, count-at-most (fulfilled (c .template) (c .a) (c .b)) (spelled log))
+  fulfilled-few c = omega (arith, traces-few, count-at-most (fulfilled (c .template) (c .a) (c .b)) (q .traces))
 
-  whole-report : WholeLines (log-question n threshold log)
+  whole-report : WholeLines q
   whole-report =
-      let q = log-question n threshold log in
       let high = declared-range n declared .1 in
       record {
         constraints = omega (arith, listed-few q high);

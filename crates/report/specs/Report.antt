@@ -15,7 +15,7 @@ use Rattle.eventlog.specs.Calls.{open-checks}
 use Rattle.fields.specs.Field.{line-feed, well-formed, value}
 use Rattle.columns.specs.Log.{log-checks, spelled}
 use Rattle.columns.specs.Calls.{with-traces}
-use Rattle.discovery.specs.Question.{Question, numbers}
+use Rattle.discovery.specs.Question.{Question, question-over, numbers}
 use Rattle.discovery.specs.Calls.{threshold-check, find-checks, with-list}
 use Rattle.report.specs.Print.{refusal-line, found-text}
 
@@ -54,7 +54,7 @@ log-of input = drop 8 input
 
 -- what is asked over the traces that a log spells
 abbrev pub log-question : ℕ → ℕ → List ℕ → Question
-log-question n threshold log = record { activities = n; traces = spelled log; threshold = threshold }
+log-question n threshold log = question-over n (spelled log) threshold
 
 abbrev pub question-set : List ℕ → Question
 question-set input = log-question (activities-set input) (threshold-set input) (log-of input)
@@ -110,18 +110,19 @@ lent-arrays events ends list = record { events = now events; ends = now ends; li
 abbrev pub empty-store : ℕ → Lent → Memory
 empty-store n arrays = record { store = record { activities = n; traces = 0 }; events = arrays .events; ends = arrays .ends }
 
--- the memory with the question's traces, where these checks pass
-abbrev pub filled-by : List Check → Question → Lent → Memory
-filled-by checks q arrays =
-    let empty = empty-store (q .activities) arrays in
-    when-passed checks (with-traces empty (q .traces)) empty
+-- the memory with the log's traces, where these checks pass
+abbrev pub filled-by : List Check → ℕ → List ℕ → Lent → Memory
+filled-by checks n log arrays =
+    let empty = empty-store n arrays in
+    when-passed checks (with-traces empty (spelled log)) empty
 
--- what is left: the buffers with the question's traces where these checks pass, and the list where the find's pass too
-abbrev pub left-by : List Check → Question → Lent → Lent
-left-by checks q arrays =
+-- what is left: the buffers with the log's traces where these checks pass, and the list where the find's pass too
+abbrev pub left-by : List Check → ℕ → ℕ → List ℕ → Lent → Lent
+left-by checks n threshold log arrays =
+    let q = log-question n threshold log in
     record {
-      events = filled-by checks q arrays .events;
-      ends = filled-by checks q arrays .ends;
+      events = filled-by checks n log arrays .events;
+      ends = filled-by checks n log arrays .ends;
       list = when-passed (then-find checks q) (with-list q (arrays .list)) (arrays .list);
     }
 
@@ -129,4 +130,4 @@ left-by checks q arrays =
 pub record Reports (input : List ℕ) (arrays : Lent) (out : List ℕ) (written : ℕ) (arrays′ : Lent) (out′ : List ℕ) : Type 0 where
   pub counts : written ≡ length (output-of input)
   pub prints : out′ ≡ output-of input ++ drop (length (output-of input)) out
-  pub leaves : arrays′ ≡ left-by (checks-to-read input) (question-set input) arrays
+  pub leaves : arrays′ ≡ left-by (checks-to-read input) (activities-set input) (threshold-set input) (log-of input) arrays

@@ -15,7 +15,7 @@ ghost use Rattle.fields.specs.Field.{line-feed, spell};
 ghost use Rattle.columns.specs.Log.{log-checks};
 ghost use Rattle.discovery.specs.Question.{numbers};
 ghost use Rattle.report.specs.Print.{activity-width, refusal-line-size, first-line-size, constraint-line-size, refusal-line, first-line, second-field};
-ghost use Rattle.report.specs.Report.{log-question, room-lent, lent-arrays, Reports};
+ghost use Rattle.report.specs.Report.{room-lent, lent-arrays, Reports};
 ghost use Rattle.report.specs.Puts.{Puts, counted-at as counted-of, line-of, lines-of};
 ghost use Rattle.report.specs.Stages.{settings-of, Decides, Decided, number-listed, answer-text};
 
@@ -193,7 +193,7 @@ fn read_and_find(
 ) -> FindAnswer
     requires { ⌜ (declarable (store .activities) ≡ true) × (store .traces ≡ 0) ⌝ }
     ensures { λ r. ⌜ Decides (log-checks (room-lent (store .activities)) (now (log .entry)))
-        (log-question (store .activities) threshold (now (log .entry)))
+        (store .activities) threshold (now (log .entry))
         (lent-arrays (events .entry) (ends .entry) (list .entry)) r (lent-arrays (events .exit) (ends .exit) (list .exit)) ⌝ }
 {
     let result = columns::read(store, events, ends, log);

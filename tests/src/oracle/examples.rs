@@ -54,9 +54,18 @@ fn starred_row_of_the_threshold() {
 
 #[test]
 fn starred_row_of_one_empty_trace() {
-    let found = find(1, &[vec![]], 1000);
-    let list = vec![[4, 0, 0, 1], [5, 0, 0, 1], [6, 0, 0, 1]];
-    assert_eq!(found, Found { list, replayed: 3, traces: 1 });
+    let mut ledger = Ledger::fresh(1, 5, 5);
+    assert_eq!(ledger.add(&[]), Ok(()));
+    assert_eq!(ledger.find(1000, room_for_all(1)), Err(refusal(11, 0)));
+    assert_eq!(ledger.traces, [vec![]]);
+}
+
+#[test]
+fn empty_traces_count_for_nothing() {
+    let found = find(1, &[vec![], vec![0], vec![]], 1000);
+    let list = vec![[1, 0, 0, 1], [5, 0, 0, 1], [6, 0, 0, 1], [7, 0, 0, 1], [8, 0, 0, 1]];
+    assert_eq!(found, Found { list, replayed: 8, traces: 1 });
+    assert_eq!(found, find(1, &[vec![0]], 1000));
 }
 
 #[test]

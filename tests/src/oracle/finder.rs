@@ -84,16 +84,19 @@ pub struct Found {
     /// The numbers of each constraint listed.
     pub list: Vec<[u16; NUMBERS]>,
     pub replayed: u32,
+    /// R.
     pub traces: u32,
 }
 
-pub fn find(n: u32, traces: &[Vec<u8>], threshold: u32) -> Found {
+/// R, all counts and the pruning numbers are taken over the kept traces of length 1 or more.
+pub fn find(n: u32, kept: &[Vec<u8>], threshold: u32) -> Found {
+    let traces: Vec<Vec<u8>> = kept.iter().filter(|w| !w.is_empty()).cloned().collect();
     let r = traces.len();
-    let s = support(n, traces);
+    let s = support(n, &traces);
     let all = constraints(n);
     let list = all
         .iter()
-        .map(|&c| (c, count(c, traces)))
+        .map(|&c| (c, count(c, &traces)))
         .filter(|&(_, k)| meets(k, threshold, r))
         .map(|(c, k)| [c.template as u16, c.a as u16, c.b as u16, k as u16])
         .collect();

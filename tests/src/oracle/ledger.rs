@@ -114,7 +114,7 @@ impl Ledger {
         if !(1..=1000).contains(&threshold) {
             return Err(refusal(3, 0));
         }
-        if self.traces.is_empty() {
+        if self.traces.iter().all(|w| w.is_empty()) {
             return Err(refusal(11, 0));
         }
         let found = finder::find(self.n, &self.traces, threshold);

@@ -5,7 +5,7 @@ use mathlib.Core.Bool.{true}
 use borrow.Author.Needs.{needs}
 use borrow.Author.Tests.{not-true, not-false}
 use Rattle.eventlog.specs.Store.{Memory, memory, sound}
-use Rattle.eventlog.proofs.Laws.{kept-length}
+use Rattle.discovery.specs.Question.{asked, trace-count}
 use Rattle.discovery.specs.Calls.{in-range}
 use Rattle.discovery.proofs.FindContract.{fits-told, short-told, finds-refused, finds-short, finds-listed}
 use Rattle.discovery.proofs.find.Statement.{statement}
@@ -19,6 +19,13 @@ is-sound-here c = sym (c .before .is-sound .ensures) ∙ not-false _ (c .if1 .le
 
 in-range-here : (c : tie.Else2) → in-range (c .before .before .before .before .before .before .before .args .threshold) ≡ true
 in-range-here c = sym (c .before .in-range .ensures) ∙ not-false _ (c .if2 .left)
+
+abbrev start-of : tie.Else3 → tie.Start
+start-of c = c .before .before .before .before .before .before .before .before .before
+
+-- behind the third test some kept trace is of length 1 or more
+some-here : (c : tie.Else3) → let s = start-of c in trace-count (asked (memory-at s) (s .args .threshold)) ≡ 0 → ⊥
+some-here c none = c .if3 .left (c .before .trace-count .ensures ∙ none)
 
 is-sound-requires : tie.Need-is-sound-requires
 is-sound-requires c κs = search needs
@@ -43,17 +50,21 @@ returns-2 c =
     let outside = sym (tested .in-range .ensures) ∙ not-true _ (c .before .if2 .taken) in
     rw (c .refused2 .ensures) (finds-refused _ _ _ 3 0 (simp (is-sound-here (tested .before), outside)))
 
+trace-count-requires : tie.Need-trace-count-requires
+trace-count-requires c κs = is-sound-here (c .before .before)
+
 refused-requires-3 : tie.Need-refused-requires-3
 refused-requires-3 c κs = search needs
 
 returns-3 : tie.Need-returns-3
 returns-3 c =
-    let e = c .before .before in
-    let h = is-sound-here (e .before .before) in
-    rw (c .refused3 .ensures) (finds-refused _ _ _ 11 0 (simp (h, in-range-here e, kept-length _ h, c .before .if3 .taken)))
+    let counted = c .before .before in
+    let e = counted .before in
+    let none = sym (counted .trace-count .ensures) ∙ c .before .if3 .taken in
+    rw (c .refused3 .ensures) (finds-refused _ _ _ 11 0 (simp (is-sound-here (e .before .before), in-range-here e, none)))
 
 look-requires : tie.Need-look-requires
-look-requires c κs = is-sound-here (c .before .before .before .before)
+look-requires c κs = let e = c .before in (is-sound-here (e .before .before .before .before), e .before .trace-count .ensures)
 
 enum-known-fit : tie.Need-enum-known-fit
 enum-known-fit c = search needs
@@ -68,16 +79,19 @@ returns-4 : tie.Need-returns-4
 returns-4 c =
     let l = c .before .before .before .before .before .before in
     let e = l .before .before in
-    let s = e .before .before .before .before .before .before .before .before in
+    let s = start-of e in
     let told = short-told _ (s .args .list .now) _ (sym (l .look .ensures .0) ∙ c .before .before .fit .given .1) in
     rw (c .refused4 .ensures, l .look .ensures .1)
-    (finds-short (memory-at s) _ _ (is-sound-here (e .before .before .before)) (in-range-here (e .before)) (e .if3 .left) _ (told .0) (rw (told .0) (told .1)))
+    (finds-short (memory-at s) _ _ (is-sound-here (e .before .before .before .before)) (in-range-here (e .before .before)) (some-here e) _ (told .0)
+    (rw (told .0) (told .1)))
 
 enum-told : tie.Need-enum-told
 enum-told c = search needs
 
 pass-requires : tie.Need-pass-requires
-pass-requires c κs = is-sound-here (c .before .before .before .before .before .before .before .before .before .before)
+pass-requires c κs =
+    let e = c .before .before .before .before .before .before .before in
+    (is-sound-here (e .before .before .before .before), e .before .trace-count .ensures)
 
 same-length-2 : tie.Need-same-length-2
 same-length-2 c = search needs
@@ -86,10 +100,10 @@ returns-5 : tie.Need-returns-5
 returns-5 c =
     let l = c .before .before .before .before .before .before .before .before in
     let e = l .before .before in
-    let s = e .before .before .before .before .before .before .before .before in
+    let s = start-of e in
     let fits = fits-told _ (s .args .list .now) (sym (l .look .ensures .0) ∙ c .before .before .before .before .enum-told .given .1) in
-    finds-listed (memory-at s) _ _ (is-sound-here (e .before .before .before)) (in-range-here (e .before)) (e .if3 .left) _ refl fits _ _
-    (rw (l .look .ensures .1) at (c .before .before .pass .ensures))
+    finds-listed (memory-at s) _ _ (is-sound-here (e .before .before .before .before)) (in-range-here (e .before .before)) (some-here e) _ refl fits _ _ _
+    (e .before .trace-count .ensures) (rw (l .look .ensures .1) at (c .before .before .pass .ensures))
 
 pub find-spec : {M : Type 1} → statement M
 find-spec =
@@ -101,6 +115,7 @@ find-spec =
     in-range-requires
     refused-requires-2
     returns-2
+    trace-count-requires
     refused-requires-3
     returns-3
     look-requires

@@ -1,14 +1,14 @@
 -- Passing over constraints, one after the other.
 -- Assumes nothing.
 use Prim.Native.Nat.{ℕ, suc, _+_, _*_, _≤_, _<_}
-use mathlib.Core.Path.{_≡_, refl, ap, _∙_}
+use mathlib.Core.Path.{_≡_, refl, ap, ap₂, _∙_}
 use mathlib.Core.Bool.{true, false}
 use mathlib.Core.List.{List, [], _∷_, _++_}
 use native.Mathlib.Numerals.{add-one}
 use native.Mathlib.Omega.{arith}
 use lib.ListN.{length, set, getD, take}
 use lib.Seq.{sets, length-sets, take-suc, length-take-le}
-use Rattle.base.specs.Lists.{filter}
+use Rattle.base.specs.Lists.{non-empty, filter}
 use Rattle.base.proofs.Lists.{filter-append, count-append, count-at-most, flat-map-append}
 use Rattle.base.proofs.Stores.{sets-append}
 use Rattle.declare.specs.declared.constraints.Constraint.{Constraint}
@@ -17,9 +17,10 @@ use Rattle.declare.specs.Constraints.{constraints}
 use Rattle.declare.proofs.constraints.Members.{constraints-number}
 use Rattle.eventlog.specs.Store.{Memory, sound, kept}
 use Rattle.eventlog.proofs.Laws.{kept-length, sound-facts}
+use Rattle.discovery.specs.declared.Measure.{Measure}
 use Rattle.discovery.specs.declared.list.Tally.{Tally}
-use Rattle.discovery.specs.Question.{Question, asked, meets, meets-threshold, fulfilments, class-of, support, always, survives, is-listed, numbers, layout}
-use Rattle.discovery.specs.Passes.{Passes, AtMostAll, none-yet}
+use Rattle.discovery.specs.Question.{Question, asked, meets, fulfilments, class-of, support, always, survives, is-listed, numbers, layout}
+use Rattle.discovery.specs.Passes.{Measured, Passes, AtMostAll, none-yet}
 use Rattle.discovery.proofs.classes.Pruning.{pruned-not-listed}
 use Rattle.discovery.proofs.Listing.{layout-length}
 
@@ -40,20 +41,23 @@ layout-append q cs ds = flat-map-append _ cs ds
 
 -- ## Tests over a sound memory's traces
 
-module _ (m : Memory) (h : sound m ≡ true) where
-  pub meets-kept : (threshold number : ℕ) → meets threshold (m .store .traces) number ≡ meets-threshold (asked m threshold) number
-  meets-kept threshold number = rw (kept-length m h)
+-- in a class that is not kept always, support decides
+pub by-support :
+    (m : Memory) (measure : Measure) (number : ℕ) (c : Constraint) → Measured m measure → always (class-of (c .template)) ≡ false →
+    number ≡ support (asked m (measure .threshold) .traces) c →
+    meets (measure .threshold) (measure .traces) number ≡ survives (asked m (measure .threshold)) c
+by-support m measure number c measured not-always e = rw not-always (ap₂ (meets (measure .threshold)) measured e)
 
-  -- in a class that is not kept always, support decides
-  pub by-support :
-      (threshold number : ℕ) (c : Constraint) → always (class-of (c .template)) ≡ false → number ≡ support (kept m) c →
-      meets threshold (m .store .traces) number ≡ survives (asked m threshold) c
-  by-support threshold number c not-always e = rw not-always (ap (meets threshold (m .store .traces)) e ∙ meets-kept threshold _)
-
-  pub fulfilments-few : (c : Constraint) → fulfilments (kept m) c ≤ 4095
-  unfolding fulfilments
-  fulfilments-few c =
-      omega (arith, count-at-most (fulfilled (c .template) (c .a) (c .b)) (kept m), kept-length m h, sound-facts m h .few-traces)
+pub fulfilments-few : (m : Memory) → sound m ≡ true → (threshold : ℕ) (c : Constraint) → fulfilments (asked m threshold .traces) c ≤ 4095
+unfolding fulfilments
+fulfilments-few m h threshold c =
+    omega (
+      arith,
+      count-at-most (fulfilled (c .template) (c .a) (c .b)) (asked m threshold .traces),
+      count-at-most non-empty (kept m),
+      kept-length m h,
+      sound-facts m h .few-traces,
+    )
 
 -- ## Passing
 

@@ -13,7 +13,7 @@ use Rattle.discovery.proofs.look.Statement.{statement}
 use Rattle.discovery.proofs.look.Tie as tie
 
 cast-constraint-count : tie.Need-cast-constraint-count
-cast-constraint-count c = omega (arith, sound-facts _ (c .before .before .before .before .pre) .few-activities)
+cast-constraint-count c = omega (arith, sound-facts _ (c .before .before .before .before .pre .0) .few-activities)
 
 constraint-count-requires : tie.Need-constraint-count-requires
 constraint-count-requires c κs = search needs
@@ -24,7 +24,7 @@ cast-if1 c = search needs
 returns : tie.Need-returns
 returns c =
     let s = c .before .before .before .before .before .before in (
-      all-fit (asked (memory (s .args .store) (s .args .events .now) (s .args .ends .now)) (s .args .threshold)) (s .args .list .now)
+      all-fit (asked (memory (s .args .store) (s .args .events .now) (s .args .ends .now)) (s .args .measure .threshold)) (s .args .list .now)
           (rw (c .before .constraint-count .ensures) at (c .if1 .taken)),
       refl,
     )

@@ -7,10 +7,17 @@ use borrow.Author.Needs.{needs}
 use Rattle.discovery.proofs.classes.meets.Statement.{statement}
 use Rattle.discovery.proofs.classes.meets.Tie as tie
 
+cast-result : tie.Need-cast-result
+cast-result c = omega (arith, c .struct-known .given)
+
+cast-result-2 : tie.Need-cast-result-2
+cast-result-2 c = omega (arith, c .struct-known2 .given)
+
 mul-result : tie.Need-mul-result
 mul-result c =
-    let low : c .args .threshold ≤ 4294967295 = omega arith in
-    let few : c .args .all ≤ 4294967295 = omega arith in
+    let measure = c .before .before .args .measure in
+    let low : measure .threshold ≤ 4294967295 = omega (arith, c .before .struct-known .given) in
+    let few : measure .traces ≤ 4294967295 = omega (arith, c .struct-known2 .given) in
     let fits = mul-le-mul low few in
     omega arith
 
@@ -21,4 +28,4 @@ returns : tie.Need-returns
 returns c = search needs
 
 pub meets-spec : {M : Type 1} → statement M
-meets-spec = tie.close (tie.spec mul-result mul-result-2 returns)
+meets-spec = tie.close (tie.spec cast-result cast-result-2 mul-result mul-result-2 returns)

@@ -7,7 +7,7 @@ use native.Mathlib.Omega.{arith}
 use borrow.Author.Needs.{needs}
 use Rattle.eventlog.specs.Store.{kept}
 use Rattle.discovery.specs.Question.{counts-for, support}
-use Rattle.discovery.proofs.Counting.{Counting, counting-start, counting-next, counting-done, starts-before, ends-within}
+use Rattle.discovery.proofs.Counting.{Counting, counting-start, counting-next, counting-empty, counting-done, starts-before, ends-within}
 use Rattle.discovery.proofs.classes.support.Statement.{statement}
 use Rattle.discovery.proofs.classes.support.Tie as tie
 
@@ -33,14 +33,14 @@ shared-slice-read-end c = omega arith
 cast-end : tie.Need-cast-end Inv-loop μ-loop
 cast-end c = omega (arith, c .shared-slice-known3 .given (c .before .before .loop .k))
 
-sub-counts-for : tie.Need-sub-counts-for Inv-loop μ-loop
-sub-counts-for c = starts-before _ _ _ _ _ _ _ (c .before .before .loop .inv) (c .before .loop-test .taken)
+sub-trace : tie.Need-sub-trace Inv-loop μ-loop
+sub-trace c = starts-before _ _ _ _ _ _ _ (c .before .before .loop .inv) (c .before .loop-test .taken)
 
-part-counts-for-start : tie.Need-part-counts-for-start Inv-loop μ-loop
-part-counts-for-start c = starts-before _ _ _ _ _ _ _ (c .before .before .loop .inv) (c .before .loop-test .taken)
+part-trace-start : tie.Need-part-trace-start Inv-loop μ-loop
+part-trace-start c = starts-before _ _ _ _ _ _ _ (c .before .before .loop .inv) (c .before .loop-test .taken)
 
-part-counts-for-end : tie.Need-part-counts-for-end Inv-loop μ-loop
-part-counts-for-end c = ends-within _ _ _ _ _ _ _ (c .before .before .loop .inv) (c .before .loop-test .taken)
+part-trace-end : tie.Need-part-trace-end Inv-loop μ-loop
+part-trace-end c = ends-within _ _ _ _ _ _ _ (c .before .before .loop .inv) (c .before .loop-test .taken)
 
 counts-for-requires : tie.Need-counts-for-requires Inv-loop μ-loop
 counts-for-requires c κs = search needs
@@ -56,10 +56,14 @@ loop-less c = omega arith
 
 loop-again : tie.Need-loop-again Inv-loop μ-loop
 loop-again c =
-    let next =
-    counting-next _ _ _ _ _ _ _ (c .before .before .before .before .before .loop .inv) (c .before .before .before .before .loop-test .taken)
-    _ (sym (c .before .counts-for .ensures)) in
-    ⊎-elim (λ w. rw (w .1) (rw (w .0 .taken) at next)) (λ w. rw (w .1) (rw (w .0 .left) at next)) (c .if1 .came)
+    let l = c .before .before .before .before in
+    let more = c .before .before .before .loop-test .taken in
+    let next = counting-next _ _ _ _ _ _ _ (l .loop .inv) more in
+    ⊎-elim (λ w. rw (w .3) (rw (w .2 .taken) at (next (w .0 .taken) _ (sym (w .1 .ensures)))))
+    (λ v. rw (v .1)
+    (⊎-elim (λ w. rw (w .2 .left) at (next (w .0 .taken) _ (sym (w .1 .ensures))))
+    (λ w. counting-empty _ _ _ _ _ _ _ (l .loop .inv) more (w .left)) (v .0 .came)))
+    (c .if1 .came)
 
 returns : tie.Need-returns Inv-loop μ-loop
 unfolding kept support
@@ -77,9 +81,9 @@ support-spec =
     mul-end
     shared-slice-read-end
     cast-end
-    sub-counts-for
-    part-counts-for-start
-    part-counts-for-end
+    sub-trace
+    part-trace-start
+    part-trace-end
     counts-for-requires
     add-count
     add-k

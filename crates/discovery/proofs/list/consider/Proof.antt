@@ -1,13 +1,13 @@
 -- `discovery::list::consider` meets its contract: the constraint is replayed, and the test says whether it is listed.
 -- Assumes nothing.
-use mathlib.Core.Path.{_≡_, refl, sym, ap, _∙_}
+use mathlib.Core.Path.{_≡_, refl, sym, ap₂, _∙_}
 use native.Mathlib.Omega.{arith}
 use borrow.Author.Needs.{needs}
 use borrow.Author.Tests.{not-true, not-false}
 use Rattle.eventlog.specs.Store.{Memory, memory}
 use Rattle.eventlog.proofs.Laws.{sound-facts}
 use Rattle.discovery.specs.Question.{asked, meets, is-listed}
-use Rattle.discovery.proofs.list.Passing.{meets-kept, fulfilments-few, passes-unlisted, passes-listed}
+use Rattle.discovery.proofs.list.Passing.{fulfilments-few, passes-unlisted, passes-listed}
 use Rattle.discovery.proofs.Listing.{few-numbers}
 use Rattle.discovery.proofs.list.consider.Statement.{statement}
 use Rattle.discovery.proofs.list.consider.Tie as tie
@@ -16,16 +16,15 @@ abbrev memory-at : tie.Start → Memory
 memory-at s = memory (s .args .store) (s .args .events .now) (s .args .ends .now)
 
 lists : (c : tie.After-meets) → let s = c .before .before .before .before .before in
-    c .meets .result ≡ is-listed (asked (memory-at s) (s .args .threshold)) (s .args .c)
+    c .meets .result ≡ is-listed (asked (memory-at s) (s .args .measure .threshold)) (s .args .c)
 lists c =
     let s = c .before .before .before .before .before in
-    c .meets .ensures ∙ ap (meets (s .args .threshold) (s .args .store .traces)) (c .before .replay .ensures .fulfilled)
-    ∙ meets-kept (memory-at s) (s .pre .0) _ _
+    c .meets .ensures ∙ ap₂ (meets (s .args .measure .threshold)) (s .pre .1 .0) (c .before .replay .ensures .fulfilled)
 
 replay-requires : tie.Need-replay-requires
 replay-requires c κs =
     let pre = c .before .before .before .pre in
-    (pre .0, (pre .1 .0, (pre .1 .1 .0, (pre .1 .1 .1 .0, pre .1 .1 .1 .1 .1))))
+    (pre .0, (pre .1 .1 .0, (pre .1 .1 .1 .0, (pre .1 .1 .1 .1 .0, pre .1 .1 .1 .1 .1 .1))))
 
 meets-requires : tie.Need-meets-requires
 meets-requires c κs = search needs
@@ -34,13 +33,13 @@ returns : tie.Need-returns
 returns c =
     let r = c .before .before in
     let s = r .before .before .before .before in
-    passes-unlisted _ _ _ _ _ refl (r .replay .ensures .counted) (s .pre .1 .0) (sym (lists (c .before)) ∙ not-true _ (c .if1 .taken))
+    passes-unlisted _ _ _ _ _ refl (r .replay .ensures .counted) (s .pre .1 .1 .0) (sym (lists (c .before)) ∙ not-true _ (c .if1 .taken))
 
 cast-write : tie.Need-cast-write
 cast-write c =
     let r = c .before .before .before in
     let s = r .before .before .before .before in
-    omega (arith, r .replay .ensures .fulfilled, fulfilments-few (memory-at s) (s .pre .0) (s .args .c))
+    omega (arith, r .replay .ensures .fulfilled, fulfilments-few (memory-at s) (s .pre .0) (s .args .measure .threshold) (s .args .c))
 
 write-requires : tie.Need-write-requires
 write-requires c κs = search needs
@@ -48,7 +47,7 @@ write-requires c κs = search needs
 add-t18 : tie.Need-add-t18
 add-t18 c =
     let s = c .before .before .before .before .before .before .before .before .before .before .before in
-    omega (arith, few-numbers (s .args .store .activities) (s .args .tally .listed) (sound-facts (memory-at s) (s .pre .0) .few-activities) (s .pre .1 .1 .1 .1 .0))
+    omega (arith, few-numbers (s .args .store .activities) (s .args .tally .listed) (sound-facts (memory-at s) (s .pre .0) .few-activities) (s .pre .1 .1 .1 .1 .1 .0))
 
 same-length : tie.Need-same-length
 same-length c = search needs
@@ -59,7 +58,7 @@ returns-2 c =
     let l = w .before .before in
     let r = l .before .before in
     let s = r .before .before .before .before in
-    passes-listed _ _ _ _ _ _ refl (r .replay .ensures .counted) (s .pre .1 .0) (sym (lists (l .before)) ∙ not-false _ (l .if1 .left))
+    passes-listed _ _ _ _ _ _ refl (r .replay .ensures .counted) (s .pre .1 .1 .0) (sym (lists (l .before)) ∙ not-false _ (l .if1 .left))
     (rw (← r .replay .ensures .fulfilled) (w .write .ensures))
 
 pub consider-spec : {M : Type 1} → statement M

@@ -21,13 +21,13 @@ use Rattle.discovery.proofs.list.pass.Statement.{statement}
 use Rattle.discovery.proofs.list.pass.Tie as tie
 
 abbrev Inv-loop : tie.InvT-loop
-Inv-loop store events ends threshold list₀ n all found₀ c₀ class₀ known₀ automaton₀ place₀ list found c class known automaton place =
-    Passes (asked (memory store events ends) threshold) (take place (constraints (store .activities))) found₀ list₀ found list
+Inv-loop store events ends measure list₀ n all found₀ c₀ class₀ known₀ automaton₀ place₀ list found c class known automaton place =
+    Passes (asked (memory store events ends) (measure .threshold)) (take place (constraints (store .activities))) found₀ list₀ found list
     × (place < all → c ≡ at (store .activities) place) × (all ≡ length (constraints (store .activities))) × (place ≤ all)
     × (class ≡ class-of (c .template)) × (automaton ≡ automaton-of known)
 
 abbrev μ-loop : tie.MeasureT-loop
-μ-loop store events ends threshold list₀ n all found₀ c₀ class₀ known₀ automaton₀ place₀ list found c class known automaton place =
+μ-loop store events ends measure list₀ n all found₀ c₀ class₀ known₀ automaton₀ place₀ list found c class known automaton place =
     all - place
 
 abbrev start-of : tie.At-loop Inv-loop μ-loop → tie.Start Inv-loop μ-loop
@@ -38,7 +38,7 @@ unfolding automaton-of
 none-known = refl
 
 cast-n : tie.Need-cast-n Inv-loop μ-loop
-cast-n c = omega (arith, sound-facts _ (c .before .before .before .before .pre) .few-activities)
+cast-n c = omega (arith, sound-facts _ (c .before .before .before .before .pre .0) .few-activities)
 
 constraint-count-requires : tie.Need-constraint-count-requires Inv-loop μ-loop
 constraint-count-requires c κs = search needs
@@ -57,7 +57,7 @@ loop-holds c =
     let first = c .before .before in
     let s = first .before .before .before .before .before .before in (
       passes-none _ _ _,
-      λ some. first .first-constraint .ensures ∙ sym (starts (s .args .store .activities) (sound-facts _ (s .pre) .some-activity)),
+      λ some. first .first-constraint .ensures ∙ sym (starts (s .args .store .activities) (sound-facts _ (s .pre .0) .some-activity)),
       first .before .constraint-count .ensures,
       omega arith,
       c .before .class-of .ensures,
@@ -65,7 +65,7 @@ loop-holds c =
     )
 
 survives-requires : tie.Need-survives-requires Inv-loop μ-loop
-survives-requires c κs = (start-of (c .before) .pre, c .before .loop .inv .4)
+survives-requires c κs = let pre = start-of (c .before) .pre in (pre .0, (pre .1, c .before .loop .inv .4))
 
 at-hand-requires : tie.Need-at-hand-requires Inv-loop μ-loop
 at-hand-requires c κs = c .before .before .before .loop .inv .5
@@ -78,12 +78,15 @@ consider-requires c κs =
     let s = start-of (t .before .before) in
     let n = s .args .store .activities in
     let more : l .place < length (constraints n) = omega (arith, l .inv .2, t .before .loop-test .taken) in (
-      s .pre,
+      s .pre .0,
       (
-        sym (t .survives .ensures) ∙ h .before .if1 .taken,
+        s .pre .1,
         (
-          subst (Over n) (sym (l .inv .1 (t .before .loop-test .taken))) (at-over n (l .place) more),
-          (h .at-hand .ensures, passes-few _ n (l .place) _ _ _ (omega arith) (l .inv .0)),
+          sym (t .survives .ensures) ∙ h .before .if1 .taken,
+          (
+            subst (Over n) (sym (l .inv .1 (t .before .loop-test .taken))) (at-over n (l .place) more),
+            (h .at-hand .ensures, passes-few _ n (l .place) _ _ _ (omega arith) (l .inv .0)),
+          ),
         ),
       ),
     )

@@ -1,12 +1,13 @@
 -- `discovery::replay::fulfilled_by` meets its contract: the loop counts the fulfilled traces, along the ends.
 -- Assumes nothing.
 use Prim.Native.Nat.{_-_}
-use mathlib.Core.Path.{sym, ap, _∙_}
+use mathlib.Core.Path.{sym, _∙_}
 use mathlib.Core.Logic.{⊎-elim}
 use native.Mathlib.Omega.{arith}
 use borrow.Author.Needs.{needs}
 use Rattle.eventlog.specs.Store.{kept}
-use Rattle.discovery.proofs.Counting.{Counting, counting-start, counting-next, counting-done, starts-before, ends-within, is-fulfilled, replays-fulfilled, replay-counts}
+use Rattle.discovery.specs.Passes.{replays-fulfilled}
+use Rattle.discovery.proofs.Counting.{Counting, counting-start, counting-next, counting-empty, counting-done, starts-before, ends-within, part-non-empty, replay-counts}
 use Rattle.discovery.proofs.replay.fulfilled_by.Statement.{statement}
 use Rattle.discovery.proofs.replay.fulfilled_by.Tie as tie
 
@@ -32,29 +33,22 @@ shared-slice-read-to c = omega arith
 cast-to : tie.Need-cast-to Inv-loop μ-loop
 cast-to c = omega (arith, c .shared-slice-known3 .given (c .before .before .loop .k))
 
-sub-replay-by : tie.Need-sub-replay-by Inv-loop μ-loop
-sub-replay-by c = starts-before _ _ _ _ _ _ _ (c .before .before .loop .inv) (c .before .loop-test .taken)
+sub-trace : tie.Need-sub-trace Inv-loop μ-loop
+sub-trace c = starts-before _ _ _ _ _ _ _ (c .before .before .loop .inv) (c .before .loop-test .taken)
 
-part-replay-by-start : tie.Need-part-replay-by-start Inv-loop μ-loop
-part-replay-by-start c = starts-before _ _ _ _ _ _ _ (c .before .before .loop .inv) (c .before .loop-test .taken)
+part-trace-start : tie.Need-part-trace-start Inv-loop μ-loop
+part-trace-start c = starts-before _ _ _ _ _ _ _ (c .before .before .loop .inv) (c .before .loop-test .taken)
 
-part-replay-by-end : tie.Need-part-replay-by-end Inv-loop μ-loop
-part-replay-by-end c = ends-within _ _ _ _ _ _ _ (c .before .before .loop .inv) (c .before .loop-test .taken)
+part-trace-end : tie.Need-part-trace-end Inv-loop μ-loop
+part-trace-end c = ends-within _ _ _ _ _ _ _ (c .before .before .loop .inv) (c .before .loop-test .taken)
 
-replay-by-requires : tie.Need-replay-by-requires Inv-loop μ-loop
-replay-by-requires c κs = search needs
-
-enum-told : tie.Need-enum-told Inv-loop μ-loop
-enum-told c = search needs
+is-fulfilled-requires : tie.Need-is-fulfilled-requires Inv-loop μ-loop
+is-fulfilled-requires c κs =
+    let l = c .before .before .before in
+    part-non-empty _ _ _ _ _ _ _ (l .before .loop .inv) (l .loop-test .taken) (c .if1 .taken)
 
 add-fulfilled : tie.Need-add-fulfilled Inv-loop μ-loop
 add-fulfilled c = omega arith
-
-enum-told-2 : tie.Need-enum-told-2 Inv-loop μ-loop
-enum-told-2 c = search needs
-
-enum-told-3 : tie.Need-enum-told-3 Inv-loop μ-loop
-enum-told-3 c = search needs
 
 add-k : tie.Need-add-k Inv-loop μ-loop
 add-k c = omega arith
@@ -64,12 +58,14 @@ loop-less c = omega arith
 
 loop-again : tie.Need-loop-again Inv-loop μ-loop
 loop-again c =
-    let next =
-    counting-next _ _ _ _ _ _ _ (c .before .before .before .before .before .loop .inv) (c .before .before .before .before .loop-test .taken)
-    (is-fulfilled (c .before .replay-by .result)) (ap is-fulfilled (sym (c .before .replay-by .ensures))) in
-    ⊎-elim (λ w. rw (w .2) (rw (w .1 .given .1) at next))
-    (⊎-elim (λ w. rw (w .2) (rw (w .1 .given .1) at next)) (λ w. rw (w .2) (rw (w .1 .given .1) at next)))
-    (c .match .came)
+    let l = c .before .before .before .before in
+    let more = c .before .before .before .loop-test .taken in
+    let next = counting-next _ _ _ _ _ _ _ (l .loop .inv) more in
+    ⊎-elim (λ w. rw (w .3) (rw (w .2 .taken) at (next (w .0 .taken) _ (sym (w .1 .ensures)))))
+    (λ v. rw (v .1)
+    (⊎-elim (λ w. rw (w .2 .left) at (next (w .0 .taken) _ (sym (w .1 .ensures))))
+    (λ w. counting-empty _ _ _ _ _ _ _ (l .loop .inv) more (w .left)) (v .0 .came)))
+    (c .if1 .came)
 
 returns : tie.Need-returns Inv-loop μ-loop
 unfolding kept
@@ -89,14 +85,11 @@ fulfilled-by-spec =
     mul-to
     shared-slice-read-to
     cast-to
-    sub-replay-by
-    part-replay-by-start
-    part-replay-by-end
-    replay-by-requires
-    enum-told
+    sub-trace
+    part-trace-start
+    part-trace-end
+    is-fulfilled-requires
     add-fulfilled
-    enum-told-2
-    enum-told-3
     add-k
     loop-less
     loop-again
