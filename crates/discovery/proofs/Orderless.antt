@@ -63,13 +63,13 @@ equal-permuted (x ∷ xs) ys h =
     λ t. cons-same (same t x) _ _ (sym (count-cons (same t) x xs) ∙ h t ∙ permuted-count (same t) (o .moved) ∙ count-cons (same t) x (o .rest)) in
     List·Permᴰ·trans (List·Permᴰ·cons refl (equal-permuted xs (o .rest) equal)) (Permᴰ·symm (o .moved))
 
--- among the traces of length 1 or more there is no empty one, and of another as many as among all
 same-non-empty : (t x : List ℕ) → non-empty x && same t x ≡ non-empty t && same t x
 same-non-empty [] [] = refl
 same-non-empty [] (y ∷ x) = refl
 same-non-empty (z ∷ t) [] = refl
 same-non-empty (z ∷ t) (y ∷ x) = refl
 
+-- among the traces of length 1 or more there is no empty one, and of each other as many as among all
 of-non-empty : (t : List ℕ) (xs : List (List ℕ)) → count (same t) (filter non-empty xs) ≡ (if non-empty t then count (same t) xs else 0)
 of-non-empty t xs = count-filter non-empty (same t) xs ∙ ap (λ p. count p xs) (fun-ext (same-non-empty t)) ∙ go (non-empty t)
   where

@@ -34,7 +34,7 @@ find-checks q list = checks-for (length (listed q)) q list
 abbrev pub checks-of-find : Memory → ℕ → List ℕ → List Check
 checks-of-find m threshold list = unsound m ∷ find-checks (asked m threshold) list
 
--- constraints listed, constraints replayed, traces
+-- constraints listed, constraints replayed, R
 abbrev pub find-values : Question → List ℕ
 find-values q = length (listed q) ∷ replayed q ∷ trace-count q ∷ []
 
