@@ -102,7 +102,8 @@ uint32_t budgieleaf_read(uint32_t store[2], uint8_t *events, size_t events_lengt
  * more. Each constraint takes four numbers of the list: template (1 to 24), a, b (for templates 1 to 8, a again) and the
  * count of traces fulfilled, by template, then a, then b, rising. Numbers past the last constraint stay as they were.
  * There are at most 14 * N * N - 6 * N constraints, so 4 * 14144 numbers are always enough.
- * Accepted: answer is { constraints listed, constraints replayed after pruning, R }.
+ * Accepted: answer is { constraints listed, constraints replayed after pruning, R }; the other store[1] - R traces are
+ * empty.
  * Refusals, the first that holds: 1, 3, 11, 10. Where only empty traces are kept, it is 11.
  */
 uint32_t budgieleaf_find(const uint32_t store[2], const uint8_t *events, size_t events_length, const uint32_t *ends,
