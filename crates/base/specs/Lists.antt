@@ -1,4 +1,4 @@
--- Lists: non-empty ones, filter, count, all, find index, range, flat map, equality. (The library's filter and count go by decisions and not by tests.)
+-- Lists: non-empty, filter, count, all, find index, range, flat map, equality. (The library's filter and count go by decisions, not by tests.)
 -- Assumes nothing.
 use Prim.Native.Nat.{ℕ, zero, suc}
 use mathlib.Core.Bool.{Bool, true, false, _&&_}

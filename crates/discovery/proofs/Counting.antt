@@ -2,7 +2,7 @@
 -- counts.
 -- Assumes nothing.
 use Prim.Native.Nat.{ℕ, suc, _+_, _-_, _≤_, _<_}
-use mathlib.Core.Path.{_≡_, refl, sym, ap, ap₂, _∙_}
+use mathlib.Core.Path.{_≡_, refl, ap, ap₂, _∙_}
 use mathlib.Core.Bool.{Bool, true, false, _&&_}
 use mathlib.Core.List.{List, [], _∷_}
 use native.Mathlib.Numerals.{add-one}
@@ -10,7 +10,6 @@ use native.Mathlib.Omega.{arith}
 use lib.ListN.{length, take, drop, getD, drop-of-length-le}
 use lib.Seq.{slice, drop-cons, getD-take, length-take-le}
 use Rattle.base.specs.Logic.{if_then_else_}
-use Rattle.declare.specs.declared.Verdict.{Verdict}
 use Rattle.declare.specs.declared.Verdict.the-variants.{Fulfilled, NotActivated, Violated}
 use Rattle.declare.specs.declared.constraints.Constraint.{Constraint}
 use Rattle.declare.specs.Meaning.{activated, holds, fulfilled, verdict}

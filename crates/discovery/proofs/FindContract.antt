@@ -90,12 +90,12 @@ module _ (m : Memory) (threshold : ℕ) (list : List ℕ) where
     says-listed fits = simp (h, good, ne-eqb (trace-count (asked m threshold)) 0 some, le-ltb (length list) _ (rw e at fits))
 
     pub finds-listed :
-        numbers * k ≤ length list → (t : Tally) (list′ : List ℕ) (all : ℕ) → all ≡ trace-count (asked m threshold) →
+        numbers * k ≤ length list → (t : Tally) (list′ : List ℕ) (traces : ℕ) → traces ≡ trace-count (asked m threshold) →
         Passes (asked m threshold) (constraints (m .store .activities)) none-yet list t list′ →
-        Finds m threshold list (Listed (record { constraints = t .listed; replayed = t .replayed; traces = all })) list′
-    finds-listed fits t list′ all same p =
+        Finds m threshold list (Listed (record { constraints = t .listed; replayed = t .replayed; traces = traces })) list′
+    finds-listed fits t list′ traces same p =
         let q = asked m threshold in
-        let values : t .listed ∷ t .replayed ∷ all ∷ [] ≡ find-values q = cc (passed-listed q _ _ _ p, passed-replayed q _ _ _ p, same) in
+        let values : t .listed ∷ t .replayed ∷ traces ∷ [] ≡ find-values q = cc (passed-listed q _ _ _ p, passed-replayed q _ _ _ p, same) in
         record {
           says = ap gives values ∙ sym (says-listed fits);
           leaves = passed-written q _ _ _ p ∙ sym (given-new (checks-of-find m threshold list) _ _ (says-listed fits) _ _);

@@ -1,7 +1,7 @@
 -- The order of the traces and the empty ones among them are nothing to discovery: alike traces have equal counts, lists and numbers.
 -- Assumes nothing.
 use Prim.Native.Nat.{ℕ, suc, _≤_}
-use mathlib.Core.Path.{_≡_, refl, sym, ap, ap₂, _∙_, fun-ext}
+use mathlib.Core.Path.{_≡_, refl, sym, ap, _∙_, fun-ext}
 use mathlib.Core.Logic.{_↔_, ∥∥₁-elim}
 use mathlib.Core.Bool.{Bool, true, false, _&&_, _||_}
 use mathlib.Core.List.{List, [], _∷_, List·Permᴰ, List·Permᴰ·nil, List·Permᴰ·cons, List·Permᴰ·swap, List·Permᴰ·trans, Perm, Permᴰ·refl, Permᴰ·symm}
@@ -9,13 +9,11 @@ use native.Mathlib.Omega.{arith}
 use native.Mathlib.Nat.{ℕ-set}
 use borrow.Author.Tests.{eqb-true, eq-eqb}
 use lib.Dec.{eqb}
-use lib.ListN.{length}
 use Rattle.base.specs.Logic.{if_then_else_}
 use Rattle.declare.specs.Meaning.{fulfilled}
 use Rattle.declare.specs.declared.constraints.Constraint.{Constraint}
 use Rattle.base.specs.Lists.{non-empty, filter, count, flat-map, equal-lists}
-use Rattle.declare.specs.Constraints.{constraints}
-use Rattle.discovery.specs.Question.{Question, question-over, trace-count, meets-threshold, fulfilments, class-of, support, always, survives, is-listed, listed, layout}
+use Rattle.discovery.specs.Question.{Question, question-over, trace-count, meets-threshold, fulfilments, class-of, support, always, survives, is-listed, layout}
 use Rattle.discovery.specs.Claims.{Alike}
 use Rattle.base.proofs.Lists.{equal-lists-same, equal-lists-refl, count-cons, count-filter, count-none, permuted-length, permuted-count}
 
@@ -128,10 +126,6 @@ module _ (q q′ : Question) (alike : AlikeQuestions q q′) where
 
   pub survives-alike : survives q ≡ survives q′
   survives-alike = fun-ext (λ c. ap (λ p. always (class-of (c .template)) || p) (meets-alike _ _ (ap (λ f. f c) same-support)))
-
-  pub listed-alike : listed q ≡ listed q′
-  unfolding listed
-  listed-alike = ap₂ (λ p n. filter p (constraints n)) is-listed-alike (alike .activities)
 
   pub layout-alike : (cs : List Constraint) → layout q cs ≡ layout q′ cs
   unfolding layout

@@ -4,7 +4,6 @@ use Prim.Native.Nat.{_-_}
 use mathlib.Core.Path.{sym, _∙_}
 use mathlib.Core.Logic.{⊎-elim}
 use native.Mathlib.Omega.{arith}
-use borrow.Author.Needs.{needs}
 use Rattle.eventlog.specs.Store.{kept}
 use Rattle.discovery.specs.Passes.{replays-fulfilled}
 use Rattle.discovery.proofs.Counting.{Counting, counting-start, counting-next, counting-empty, counting-done, starts-before, ends-within, part-non-empty, replay-counts}
