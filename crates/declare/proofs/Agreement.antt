@@ -1,5 +1,5 @@
 -- The tables agree with the summary of the trace, and so with the templates' meanings. They are followed beside the summary, all templates at
--- once: from the start the three letters lead to 154 places, and at each the verdicts are the same.
+-- once: from the start the three letters lead to 154 places, and at each the verdicts are the same, and tell whether the template holds.
 -- Assumes nothing.
 use Prim.Native.Nat.{ℕ, zero, suc, _+_, _*_, _≤_, _<_}
 use native.Mathlib.Omega.{arith}
@@ -16,10 +16,10 @@ use Rattle.base.proofs.Bools.{equal-same, and-left, and-right, either}
 use Rattle.base.proofs.Lists.{equal-lists-same, all-range, range-at}
 use Rattle.declare.specs.declared.Verdict.{Verdict}
 use Rattle.declare.specs.declared.Verdict.the-variants.{Fulfilled, NotActivated, Violated}
-use Rattle.declare.specs.Meaning.{verdict}
-use Rattle.declare.specs.Automata.{next-of, verdict-of, letter, follow, byte-of, told}
-use Rattle.declare.proofs.Summary.{summary, flags-of, with-event, after, answer, summed}
-use Rattle.declare.proofs.Deciding.{decides}
+use Rattle.declare.specs.Meaning.{holds, verdict}
+use Rattle.declare.specs.Automata.{next-of, verdict-of, letter, follow, byte-of, told, stands}
+use Rattle.declare.proofs.Summary.{Summary, summary, flags-of, with-event, after, answer, summed}
+use Rattle.declare.proofs.Deciding.{decides-holds, decides}
 
 -- ## The places
 
@@ -66,13 +66,17 @@ at-first = place (map (λ t. 0) (range 0 25)) (flags-of (summary 0 0 []))
 abbrev right : Place → ℕ → Bool
 right p t = eqb (byte-of (verdict-of t (getD (p .states) t 0))) (byte-of (summed (summary 0 0 (p .flags)) t))
 
+-- it tells whether the template holds
+abbrev telling : Place → ℕ → Bool
+telling p t = Bool·beq (stands (verdict-of t (getD (p .states) t 0))) (answer (summary 0 0 (p .flags)) t)
+
 -- a letter leads on to a place among these
 abbrev leads : List Place → Place → ℕ → Bool
 leads places p letter = among (onward p letter) places
 
 -- the verdicts are right, and each letter leads on
 abbrev fine : List Place → Place → Bool
-fine places p = all (right p) (range 1 24) && all (leads places p) (range 0 3)
+fine places p = (all (right p) (range 1 24) && all (telling p) (range 1 24)) && all (leads places p) (range 0 3)
 
 abbrev closed : List Place → Bool
 closed places = among at-first places && all (fine places) places
@@ -82,7 +86,7 @@ unfolding next-of
 places = explored 463 (at-first ∷ []) []
 
 places-closed : closed places ≡ true
-unfolding places next-of verdict-of summed
+unfolding places next-of verdict-of summed answer
 places-closed = refl
 
 -- ## What is so at each place of the list
@@ -133,41 +137,62 @@ letter-says a b x apart = go (eqb x a) (eqb x b) refl refl
 -- ## The agreement
 
 module _ (p : Place) (found : among p places ≡ true) where
-  is-fine : (all (right p) (range 1 24) ≡ true) × (all (leads places p) (range 0 3) ≡ true)
+  is-fine : (all (right p) (range 1 24) ≡ true) × (all (telling p) (range 1 24) ≡ true) × (all (leads places p) (range 0 3) ≡ true)
   is-fine =
       let all-right = all (right p) (range 1 24) in
+      let all-tell = all (telling p) (range 1 24) in
       let all-lead = all (leads places p) (range 0 3) in
       let h = passed (fine places) p places (and-right (among at-first places) (all (fine places) places) places-closed) found in
-      (and-left all-right all-lead h, and-right all-right all-lead h)
+      let both = and-left (all-right && all-tell) all-lead h in
+      (and-left all-right all-tell both, and-right all-right all-tell both, and-right (all-right && all-tell) all-lead h)
 
   onward-found : (letter : ℕ) → letter < 3 → among (onward p letter) places ≡ true
-  onward-found letter h = all-range (leads places p) 0 3 letter (is-fine .1) (omega arith) h
+  onward-found letter h = all-range (leads places p) 0 3 letter (is-fine .2) (omega arith) h
 
-  same-verdict : (template : ℕ) → 1 ≤ template → template ≤ 24
-      → verdict-of template (getD (p .states) template 0) ≡ summed (summary 0 0 (p .flags)) template
-  same-verdict template low high =
-      let v = verdict-of template (getD (p .states) template 0) in
-      let w = summed (summary 0 0 (p .flags)) template in
-      sym (told-byte v)
-      ∙ ap told (eqb-true (byte-of v) (byte-of w) (all-range (right p) 1 24 template (is-fine .0) low (omega arith)))
-      ∙ told-byte w
+  module _ (template : ℕ) (low : 1 ≤ template) (high : template ≤ 24) where
+    same-verdict : verdict-of template (getD (p .states) template 0) ≡ summed (summary 0 0 (p .flags)) template
+    same-verdict =
+        let v = verdict-of template (getD (p .states) template 0) in
+        let w = summed (summary 0 0 (p .flags)) template in
+        sym (told-byte v)
+        ∙ ap told (eqb-true (byte-of v) (byte-of w) (all-range (right p) 1 24 template (is-fine .0) low (omega arith)))
+        ∙ told-byte w
+
+    same-answer : stands (verdict-of template (getD (p .states) template 0)) ≡ answer (summary 0 0 (p .flags)) template
+    same-answer = equal-same _ _ (all-range (telling p) 1 24 template (is-fine .1) low (omega arith))
 
 module _ (template a b : ℕ) (low : 1 ≤ template) (high : template ≤ 24) (apart : eqb a b ≡ false) where
-  agree-from : (p : Place) (trace : List ℕ) → among p places ≡ true
-      → verdict-of template (follow template a b (getD (p .states) template 0) trace) ≡ summed (after (summary a b (p .flags)) trace) template
-  unfolding summed answer
-  agree-from p [] found = same-verdict p found template low high
-  agree-from p (x ∷ trace) found =
+  -- what is read off a state by the table, and what is read off the summary, agree after a trace where they agree at each place
+  agree-from : {A : Type 0} (of-state : ℕ → A) (of-summary : Summary → A)
+      → ((p : Place) → among p places ≡ true → of-state (getD (p .states) template 0) ≡ of-summary (summary a b (p .flags)))
+      → (p : Place) (trace : List ℕ) → among p places ≡ true
+      → of-state (follow template a b (getD (p .states) template 0) trace) ≡ of-summary (after (summary a b (p .flags)) trace)
+  agree-from of-state of-summary there p [] found = there p found
+  agree-from of-state of-summary there p (x ∷ trace) found =
       let l = letter a b x in
       let says = letter-says a b x apart in
       let at-once = range-at (λ t. next-of t (getD (p .states) t 0) l) 25 template 0 (omega arith) in
-      ap (λ k. verdict-of template (follow template a b k trace)) (sym at-once)
-      ∙ agree-from (onward p l) trace (onward-found p found l (letter-small a b x))
-      ∙ ap₂ (λ is-a is-b. summed (after (with-event (summary a b (p .flags)) is-a is-b) trace) template) (says .0) (says .1)
+      ap (λ k. of-state (follow template a b k trace)) (sym at-once)
+      ∙ agree-from of-state of-summary there (onward p l) trace (onward-found p found l (letter-small a b x))
+      ∙ ap₂ (λ is-a is-b. of-summary (after (with-event (summary a b (p .flags)) is-a is-b) trace)) (says .0) (says .1)
+
+  agree-at-first : {A : Type 0} (of-state : ℕ → A) (of-summary : Summary → A)
+      → ((p : Place) → among p places ≡ true → of-state (getD (p .states) template 0) ≡ of-summary (summary a b (p .flags)))
+      → (trace : List ℕ) → of-state (follow template a b 0 trace) ≡ of-summary (after (summary a b []) trace)
+  agree-at-first of-state of-summary there trace =
+      ap (λ k. of-state (follow template a b k trace)) (sym (range-at (λ t. 0) 25 template 0 (omega arith)))
+      ∙ agree-from of-state of-summary there at-first trace (and-left (among at-first places) _ places-closed)
 
   -- by the tables, a trace leads from state 0 to a state that has the trace's verdict
   pub follow-right : (trace : List ℕ) → verdict-of template (follow template a b 0 trace) ≡ verdict template a b trace
+  unfolding summed answer
   follow-right trace =
-      ap (λ k. verdict-of template (follow template a b k trace)) (sym (range-at (λ t. 0) 25 template 0 (omega arith)))
-      ∙ agree-from at-first trace (and-left (among at-first places) _ places-closed)
+      agree-at-first (verdict-of template) (λ s. summed s template) (λ p found. same-verdict p found template low high) trace
       ∙ decides template a b trace
+
+  -- and this verdict tells whether the template holds
+  pub follow-holds : (trace : List ℕ) → stands (verdict-of template (follow template a b 0 trace)) ≡ holds template a b trace
+  unfolding answer
+  follow-holds trace =
+      agree-at-first (λ k. stands (verdict-of template k)) (λ s. answer s template) (λ p found. same-answer p found template low high) trace
+      ∙ decides-holds template a b trace

@@ -301,7 +301,12 @@ module _ (a b : ℕ) (trace : List ℕ) where
       ap (λ (l : List Bool). getD l template false) answers-right
       ∙ List·getD-map (λ (m : Meaning). m a b trace) (never ∷ meanings) template never
 
--- after any trace, for every template number and every a and b, the verdict read off the summary is the verdict of the definitions
+-- after any trace, for every template number and every a and b, the summary tells whether the template holds
+pub decides-holds : (template a b : ℕ) (trace : List ℕ) → answer (after (no-event-yet a b) trace) template ≡ holds template a b trace
+unfolding end
+decides-holds template a b trace = answer-right a b trace template
+
+-- and the verdict read off it is the verdict of the definitions
 pub decides : (template a b : ℕ) (trace : List ℕ) → summed (after (no-event-yet a b) trace) template ≡ verdict template a b trace
 unfolding summed verdict activated end
 decides template a b trace =

@@ -2,22 +2,22 @@
 -- Assumes nothing.
 use Prim.Native.Nat.{ℕ, _%_, _≤_, _<_}
 use native.Mathlib.Omega.{arith}
-use mathlib.Core.Path.{_≡_, refl, sym, ap₂, _∙_}
-use mathlib.Core.Bool.{true, false}
+use mathlib.Core.Path.{_≡_, refl, sym, ap, ap₂, _∙_}
+use mathlib.Core.Bool.{Bool, true, false}
 use mathlib.Core.List.{List, [], _∷_, _++_, map}
 use borrow.Author.Tests.{leb-true, ltb-true, eqb-true, not-true, ne-eqb}
 use lib.Dec.{eqb, leb, ltb}
-use Rattle.base.specs.Lists.{all}
+use lib.ListN.{getD}
+use Rattle.base.specs.Lists.{all, range}
 use Rattle.base.proofs.Lists.{range-at}
 use Rattle.base.proofs.Bools.{and-left, and-right, either, clash}
-use Rattle.declare.specs.declared.Verdict.the-variants.{NotActivated}
 use Rattle.declare.specs.declared.Replayer.{Replayer}
 use Rattle.declare.specs.declared.constraints.Constraint.{Constraint}
 use Rattle.declare.specs.Meaning.{between, meanings, holds, activated, verdict, activity, beside}
-use Rattle.declare.specs.Automata.{no-automaton, automaton, moves-of, start, advance, advance-all, verdict-by}
+use Rattle.declare.specs.Automata.{next-of, verdict-of, letter, follow, stands, no-automaton, automaton, moves-of, start, advance, advance-all, verdict-by}
 use Rattle.declare.specs.Constraints.{pairs, Over}
 use Rattle.declare.proofs.Ranges.{unnamed}
-use Rattle.declare.proofs.Agreement.{follow-right}
+use Rattle.declare.proofs.Agreement.{follow-right, follow-holds}
 use Rattle.declare.proofs.Shifting.{chosen, shifted}
 
 -- one event more
@@ -47,12 +47,19 @@ followed template a b trace =
     ∙ follow-right template (activity a) (beside (activity a) (activity b)) low high (beside-apart (a % 32) (b % 32) (omega arith)) (map activity trace))
     (λ h. rw (unnamed template _ _ h, h, stays a b trace))
 
--- for templates 1 to 8 b does not matter
+-- what is the same for templates 1 to 8
+up-to-8 : {A : Type 0} (f g : ℕ → A) → map f (range 0 9) ≡ map g (range 0 9) → (template : ℕ) → template ≤ 8 → f template ≡ g template
+up-to-8 f g same template h =
+    sym (range-at f 9 template (f 0) (omega arith)) ∙ ap (λ l. getD l template (f 0)) same ∙ range-at g 9 template (f 0) (omega arith)
+
+-- for them b does not matter
 alone : (template a b c : ℕ) (trace : List ℕ) → template ≤ 8 → verdict template a b trace ≡ verdict template a c trace
 unfolding verdict activated holds meanings
-alone template a b c trace h =
-    sym (range-at (λ t. verdict t a b trace) 9 template NotActivated (omega arith))
-    ∙ range-at (λ t. verdict t a c trace) 9 template NotActivated (omega arith)
+alone template a b c trace h = up-to-8 (λ t. verdict t a b trace) (λ t. verdict t a c trace) refl template h
+
+alone-holds : (template a b c : ℕ) (trace : List ℕ) → template ≤ 8 → holds template a b trace ≡ holds template a c trace
+unfolding holds meanings
+alone-holds template a b c trace h = up-to-8 (λ t. holds t a b trace) (λ t. holds t a c trace) refl template h
 
 same-trace : (n : ℕ) → n ≤ 32 → (trace : List ℕ) → all (λ x. ltb x n) trace ≡ true → map activity trace ≡ trace
 same-trace n few [] h = refl
@@ -77,3 +84,29 @@ followed-constraint n c few over trace within =
     followed (c .template) (c .a) (c .b) trace
     ∙ rw (a, b, same-trace n few trace within)
     (either (eqb (c .a) (c .b)) (λ e. alone (c .template) (c .a) _ (c .b) trace (low (c .template) (c .a) (c .b) (over .4) e)) (λ e. rw e))
+
+-- a beside itself is as a beside what no event is
+beside-none : (template n a k : ℕ) (trace : List ℕ) → all (λ x. ltb x n) trace ≡ true → follow template a a k trace ≡ follow template a n k trace
+beside-none template n a k [] within = refl
+beside-none template n a k (x ∷ trace) within =
+    let rest = all (λ x. ltb x n) trace in
+    let small = ltb-true x n (and-left (ltb x n) rest within) in
+    ap (λ l. follow template a a (next-of template k l) trace) (same-letter small (eqb x a) refl)
+    ∙ beside-none template n a _ trace (and-right (ltb x n) rest within)
+  where
+    same-letter : x < n → (p : Bool) → eqb x a ≡ p → letter a a x ≡ letter a n x
+    same-letter small true e = rw e
+    same-letter small false e = rw (e, ne-eqb x n (λ f. omega arith))
+
+-- by the tables, the state that a trace leads to tells whether a constraint over n activities holds
+pub follow-holds-constraint : (n : ℕ) (c : Constraint) → Over n c → (trace : List ℕ) → all (λ x. ltb x n) trace ≡ true
+    → stands (verdict-of (c .template) (follow (c .template) (c .a) (c .b) 0 trace)) ≡ holds (c .template) (c .a) (c .b) trace
+follow-holds-constraint n c over trace within =
+    let told : ℕ → Bool = λ b. stands (verdict-of (c .template) (follow (c .template) (c .a) b 0 trace)) in
+    either (eqb (c .a) (c .b))
+    (λ e.
+    ap told (sym (eqb-true (c .a) (c .b) e))
+    ∙ ap (λ k. stands (verdict-of (c .template) k)) (beside-none (c .template) n (c .a) 0 trace within)
+    ∙ follow-holds (c .template) (c .a) n (over .0) (over .1) (ne-eqb (c .a) n (λ f. omega arith)) trace
+    ∙ alone-holds (c .template) (c .a) n (c .b) trace (low (c .template) (c .a) (c .b) (over .4) e))
+    (λ e. follow-holds (c .template) (c .a) (c .b) (over .0) (over .1) e trace)

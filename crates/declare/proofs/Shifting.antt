@@ -23,7 +23,7 @@ use Rattle.declare.proofs.Agreement.{letter-small}
 -- ## The words
 
 -- what passes at each state of each template
-at-every-state : (p : ℕ → ℕ → Bool) → all (λ t. all (p t) (range 0 8)) (range 1 24) ≡ true
+pub at-every-state : (p : ℕ → ℕ → Bool) → all (λ t. all (p t) (range 0 8)) (range 1 24) ≡ true
     → (template k : ℕ) → 1 ≤ template → template ≤ 24 → k < 8 → p template k ≡ true
 at-every-state p h template k low high small =
     all-range (p template) 0 8 k (all-range (λ t. all (p t) (range 0 8)) 1 24 template h low (omega arith)) (omega arith) small
@@ -95,10 +95,10 @@ module _ (template : ℕ) (low : 1 ≤ template) (high : template ≤ 24) where
       (all-range (moves-right template k) 0 3 l (at-every-state (λ t k. all (moves-right t k) (range 0 3)) all-moves-right template k low high small)
       (omega arith) few)
 
-  next-small : (k l : ℕ) → k < 8 → l < 3 → next-of template k l < 8
+  pub next-small : (k l : ℕ) → k < 8 → l < 3 → next-of template k l < 8
   next-small k l small few = omega (arith, moved k l small few)
 
-  follow-small : (a b k : ℕ) (trace : List ℕ) → k < 8 → follow template a b k trace < 8
+  pub follow-small : (a b k : ℕ) (trace : List ℕ) → k < 8 → follow template a b k trace < 8
   follow-small a b k [] small = small
   follow-small a b k (x ∷ trace) small = follow-small a b _ trace (next-small k (letter a b x) small (letter-small a b x))
 

@@ -2,6 +2,7 @@
 -- shows that it comes to `verdict`.
 -- Assumes nothing.
 use Prim.Native.Nat.{ℕ, zero, suc, _+_, _-_, _*_, _/_, _%_, _^_}
+use mathlib.Core.Bool.{Bool, true, false}
 use mathlib.Core.List.{List, [], _∷_, map}
 use lib.Dec.{eqb}
 use lib.ListN.{getD, set, replicate}
@@ -92,6 +93,12 @@ byte-of Violated = 2
 -- the verdict of a byte
 abbrev pub told : ℕ → Verdict
 told byte = if eqb byte 0 then Fulfilled else if eqb byte 1 then NotActivated else Violated
+
+-- whether the template holds where this is the verdict: one that is not activated does
+abbrev pub stands : Verdict → Bool
+stands Fulfilled = true
+stands NotActivated = true
+stands Violated = false
 
 unfoldable pub state-verdicts : List ℕ
 unfolding state-of

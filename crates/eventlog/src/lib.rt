@@ -64,7 +64,8 @@ pub const FULL: u8 = 8;
 
 pub const NO_SPACE: u8 = 9;
 
-fn declarable(n: u32) -> bool
+// Whether so many activities can be declared.
+pub fn declarable(n: u32) -> bool
     ensures { λ r. ⌜ r ≡ declarable-test n ⌝ }
 {
     1 <= n && n <= MOST_ACTIVITIES

@@ -1,0 +1,83 @@
+-- What the two loops over the constraints come to: a new state for each, with what it tells, and then what was there.
+-- Assumes nothing.
+use Prim.Native.Nat.{ℕ, zero, suc, _+_, _*_, _-_, _≤_, _<_}
+use native.Mathlib.Omega.{arith}
+use native.Mathlib.Nat.{zero-add}
+use mathlib.Core.Path.{_≡_, refl, sym, ap, ap₂, _∙_}
+use mathlib.Core.Bool.{Bool, true}
+use mathlib.Core.List.{List, [], _∷_, _++_, map}
+use lib.ListN.{length, getD, set, take, drop, length-map}
+use lib.Seq.{drop-cons, getD-at, set-at, take-suc, take-all, length-take-le, append-snoc}
+use Rattle.base.specs.Lists.{range}
+use Rattle.base.proofs.Lists.{range-at, range-length}
+use Rattle.watcher.specs.Calls.{Lent}
+use Rattle.watcher.specs.Loops.{each-of, put}
+
+-- ## A list whose front is new
+
+abbrev front : List ℕ → ℕ → List ℕ → List ℕ
+front new n l = take n new ++ drop n l
+
+front-here : (new : List ℕ) (n : ℕ) (l : List ℕ) → n ≤ length new → n < length l → getD (front new n l) n 0 ≡ getD l n 0
+front-here new n l h k =
+    ap (λ r. getD (take n new ++ r) n 0) (drop-cons l n 0 k) ∙ getD-at (take n new) (getD l n 0) (drop (suc n) l) 0 n (length-take-le n new h)
+
+front-on : (new : List ℕ) (n : ℕ) (l : List ℕ) → n < length new → n < length l → set (front new n l) n (getD new n 0) ≡ front new (suc n) l
+front-on new n l h k =
+    let rest = drop (suc n) l in
+    ap (λ r. set (take n new ++ r) n (getD new n 0)) (drop-cons l n 0 k)
+    ∙ set-at (take n new) (getD l n 0) rest (getD new n 0) n (length-take-le n new (omega arith))
+    ∙ sym (append-snoc (take n new) (getD new n 0) rest)
+    ∙ ap (λ r. r ++ rest) (sym (take-suc new n 0 h))
+
+front-all : (new : List ℕ) (n : ℕ) (l : List ℕ) → length new ≡ n → front new n l ≡ new ++ drop n l
+front-all new n l e = ap (λ r. r ++ drop n l) (take-all n new (omega arith))
+
+-- ## The loops
+
+module _ (outlooks : List ℕ) (turn : ℕ → Lent → Lent) (count : ℕ) (new : ℕ → ℕ) (l₀ : Lent)
+    (each : (i : ℕ) (l : Lent) → i < count → getD (l .states) i 0 ≡ getD (l₀ .states) i 0 → turn i l ≡ put outlooks i (new i) l)
+    (states-fit : count ≤ length (l₀ .states)) (told-fit : count ≤ length (l₀ .told)) where
+  tell : ℕ → ℕ
+  tell i = getD outlooks (new i) 0
+
+  listed : (ℕ → ℕ) → List ℕ
+  listed f = map f (range 0 count)
+
+  listed-length : (f : ℕ → ℕ) → length (listed f) ≡ count
+  unfolding listed
+  listed-length f = length-map (range 0 count) f ∙ range-length 0 count
+
+  -- the first so many are new
+  partly : ℕ → Lent
+  partly at = record { states = front (listed new) at (l₀ .states); told = front (listed tell) at (l₀ .told) }
+
+  turned : (at : ℕ) → at < count → turn at (partly at) ≡ partly (suc at)
+  unfolding partly tell listed
+  turned at h =
+      let states-long = listed-length new in
+      let told-long = listed-length tell in
+      let new-at = range-at new count at 0 h in
+      let told-at = range-at tell count at 0 h in
+      let s = front-on (listed new) at (l₀ .states) (omega (arith, states-long)) (omega arith) in
+      let t = front-on (listed tell) at (l₀ .told) (omega (arith, told-long)) (omega arith) in
+      each at (partly at) h (front-here (listed new) at (l₀ .states) (omega (arith, states-long)) (omega arith))
+      ∙ ap₂ (λ x y. record { states = x; told = y })
+      (ap (set (partly at .states) at) (sym new-at) ∙ s)
+      (ap (set (partly at .told) at) (sym told-at) ∙ t)
+
+  onward : (more at : ℕ) → at + more ≡ count → each-of turn more at (partly at) ≡ partly count
+  unfolding each-of
+  onward zero at e = ap partly (omega arith)
+  onward (suc more) at e = ap (each-of turn more (suc at)) (turned at (omega arith)) ∙ onward more (suc at) (omega arith)
+
+  pub filled :
+      each-of turn count 0 l₀
+      ≡ record {
+        states = map new (range 0 count) ++ drop count (l₀ .states);
+        told = map (λ i. getD outlooks (new i) 0) (range 0 count) ++ drop count (l₀ .told);
+      }
+  unfolding partly tell listed
+  filled =
+      onward count 0 (zero-add count)
+      ∙ ap₂ (λ x y. record { states = x; told = y }) (front-all (listed new) count (l₀ .states) (listed-length new)) (front-all (listed tell) count (l₀ .told) (listed-length tell))

@@ -1,0 +1,9 @@
+pub mod Outlooks
+pub mod Turning
+pub mod Filling
+pub mod Looking
+pub mod Making
+pub mod Starting
+pub mod Stepping
+pub mod Claim
+pub mod SmallN

@@ -1,0 +1,59 @@
+-- The loops over the constraints, turn by turn, and what they come to.
+-- Assumes nothing.
+use Prim.Native.Nat.{ℕ, zero, suc, _+_, _*_, _-_, _%_, _/_, _≤_, _<_}
+use native.Mathlib.Omega.{arith}
+use native.Mathlib.Numerals.{add-one}
+use mathlib.Core.Path.{_≡_, refl, sym, ap, ap₂, _∙_}
+use mathlib.Core.Bool.{Bool, true, _&&_}
+use mathlib.Core.List.{List, [], _∷_, _++_, map}
+use lib.ListN.{length, getD, set, take, drop}
+use lib.Seq.{paste, paste-zero, paste-suc, length-paste}
+use Rattle.base.specs.Lists.{all, range}
+use Rattle.base.proofs.Lists.{range-at, range-length}
+use Rattle.watcher.specs.Calls.{constraint-at, given, proper, Lent}
+use Rattle.watcher.specs.Loops.{each-of, put}
+
+-- ## One turn of a loop
+
+pub turns-due : (turn : ℕ → Lent → Lent) (count : ℕ) (l : Lent) → each-of turn count 0 l ≡ each-of turn (count - 0) 0 l
+turns-due turn count l = let all : count ≡ count - 0 = omega arith in ap (λ n. each-of turn n 0 l) all
+
+pub turns-done : (turn : ℕ → Lent → Lent) (count at : ℕ) (l : Lent) → count ≤ at → each-of turn (count - at) at l ≡ l
+unfolding each-of
+turns-done turn count at l h = let none : count - at ≡ 0 = omega arith in ap (λ n. each-of turn n at l) none
+
+pub turns-on : (turn : ℕ → Lent → Lent) (count at : ℕ) (l : Lent) → at < count
+    → each-of turn (count - at) at l ≡ each-of turn (count - (at + 1)) (at + 1) (turn at l)
+unfolding each-of
+turns-on turn count at l h =
+    let one-more : count - at ≡ suc (count - (at + 1)) = omega arith in
+    ap (λ n. each-of turn n at l) one-more ∙ ap (λ n. each-of turn (count - (at + 1)) n (turn at l)) (sym (add-one at))
+
+-- ## A test of each
+
+-- whether those from a number on pass
+unfoldable pub all-from : (ℕ → Bool) → ℕ → ℕ → Bool
+all-from test count at = all test (range at (count - at))
+
+all-due : {A : Type 0} (test : A → Bool) (f : ℕ → A) (count : ℕ) → all test (map f (range 0 count)) ≡ all-from (λ i. test (f i)) count 0
+unfolding all-from
+all-due test f count = let all-of : count ≡ count - 0 = omega arith in each (range 0 count) ∙ ap (λ n. all (λ i. test (f i)) (range 0 n)) all-of
+  where
+    each : (l : List ℕ) → all test (map f l) ≡ all (λ i. test (f i)) l
+    each [] = refl
+    each (x ∷ l) = ap (λ rest. test (f x) && rest) (each l)
+
+pub all-given : (n : ℕ) (numbers : List ℕ)
+    → all (proper n) (given numbers) ≡ all-from (λ i. proper n (constraint-at numbers i)) (length numbers / 3) 0
+unfolding given
+all-given n numbers = all-due (proper n) (constraint-at numbers) (length numbers / 3)
+
+pub all-done : (test : ℕ → Bool) (count at : ℕ) → count ≤ at → all-from test count at ≡ true
+unfolding all-from
+all-done test count at h = let none : count - at ≡ 0 = omega arith in ap (λ n. all test (range at n)) none
+
+pub all-on : (test : ℕ → Bool) (count at : ℕ) → at < count → all-from test count at ≡ test at && all-from test count (at + 1)
+unfolding all-from
+all-on test count at h =
+    let one-more : count - at ≡ suc (count - (at + 1)) = omega arith in
+    ap (λ n. all test (range at n)) one-more ∙ ap (λ n. test at && all test (range n (count - (at + 1)))) (sym (add-one at))

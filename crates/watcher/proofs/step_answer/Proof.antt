@@ -1,0 +1,54 @@
+-- `watcher::step_answer` meets its contract. Assumes nothing.
+use mathlib.Core.Path.{_≡_, sym, _∙_}
+use mathlib.Core.Bool.{true}
+use borrow.Author.Needs.{needs}
+use borrow.Author.Tests.{le-leb, lt-leb, le-ltb, lt-ltb, not-true, not-false}
+use Rattle.watcher.specs.Loops.{usable}
+use Rattle.watcher.proofs.step_answer.Statement.{statement}
+use Rattle.watcher.proofs.step_answer.Tie as tie
+
+usable-yes : (c : tie.Else1) → let args = c .before .before .args in usable (args .watcher) (args .numbers) ≡ true
+usable-yes c = sym (c .before .is-usable .ensures) ∙ not-false (c .before .is-usable .result) (c .if1 .left)
+
+is-usable-requires : tie.Need-is-usable-requires
+is-usable-requires c κs = search needs
+
+not-taken-requires : tie.Need-not-taken-requires
+not-taken-requires c κs = search needs
+
+returns : tie.Need-returns
+returns c =
+    let tested = c .before .before .is-usable in
+    simp (c .not-taken .ensures, ← tested .ensures, not-true (tested .result) (c .before .if1 .taken))
+
+not-taken-requires-2 : tie.Need-not-taken-requires-2
+not-taken-requires-2 c κs = search needs
+
+returns-2 : tie.Need-returns-2
+returns-2 c = simp (c .not-taken2 .ensures, usable-yes (c .before .before .before), le-ltb _ _ (c .before .if2 .taken))
+
+not-taken-requires-3 : tie.Need-not-taken-requires-3
+not-taken-requires-3 c κs = search needs
+
+returns-3 : tie.Need-returns-3
+returns-3 c =
+    let declared = c .before .before .before in
+    simp (c .not-taken3 .ensures, usable-yes (declared .before .before), lt-ltb _ _ (declared .if2 .left), le-leb _ _ (c .before .if3 .taken))
+
+returns-4 : tie.Need-returns-4
+returns-4 c =
+    let declared = c .before .before in
+    simp (usable-yes (declared .before .before), lt-ltb _ _ (declared .if2 .left), lt-leb _ _ (c .if3 .left))
+
+pub step-answer-spec : {M : Type 1} → statement M
+step-answer-spec =
+    tie.close
+    (tie.spec
+    is-usable-requires
+    not-taken-requires
+    returns
+    not-taken-requires-2
+    returns-2
+    not-taken-requires-3
+    returns-3
+    returns-4)

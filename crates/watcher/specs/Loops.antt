@@ -1,0 +1,41 @@
+-- The watcher's two loops over the constraints: what each turn writes. Nothing here has to be believed: proofs/Turning.antt shows that they
+-- come to `Calls.after`.
+-- Assumes nothing.
+use Prim.Native.Nat.{ℕ, zero, suc, _+_, _*_, _%_}
+use mathlib.Core.Bool.{Bool, not, _&&_}
+use mathlib.Core.List.{List, _∷_}
+use lib.Dec.{eqb, leb}
+use lib.ListN.{getD, set}
+use Rattle.base.specs.Checks.{Check, _refuses_with_}
+use Rattle.eventlog.specs.Store.{most-activities, longest-trace}
+use Rattle.watcher.specs.declared.Watcher.{Watcher}
+use Rattle.watcher.specs.Calls.{Lent, most-constraints, step-checks}
+use Rattle.watcher.specs.Table.{place}
+
+-- so many turns, from the first one's number on
+unfoldable pub each-of : (ℕ → Lent → Lent) → ℕ → ℕ → Lent → Lent
+each-of turn zero at l = l
+each-of turn (suc more) at l = each-of turn more (suc at) (turn at l)
+
+-- a constraint's new state, and what it tells
+abbrev pub put : List ℕ → ℕ → ℕ → Lent → Lent
+put outlooks at state l = record { states = set (l .states) at state; told = set (l .told) at (getD outlooks state 0) }
+
+-- before the first event
+abbrev pub first-turn : List ℕ → List ℕ → ℕ → Lent → Lent
+first-turn outlooks numbers at l = put outlooks at (8 * (getD numbers (3 * at) 0 % 32)) l
+
+-- an event
+abbrev pub turn-by : List ℕ → List ℕ → List ℕ → ℕ → ℕ → Lent → Lent
+turn-by next outlooks numbers activity at l =
+    put outlooks at (getD next (place (getD numbers (3 * at + 1) 0) (getD numbers (3 * at + 2) 0) (getD (l .states) at 0) activity) 0) l
+
+-- ## The checks of any memory
+
+-- the sizes that a start leaves, beside so many numbers
+abbrev pub usable : Watcher → ℕ → Bool
+usable w numbers =
+    leb (w .activities) most-activities && leb (w .constraints) most-constraints && eqb (3 * w .constraints) numbers && leb (w .taken) longest-trace
+
+abbrev pub checks-of-step : Watcher → ℕ → ℕ → List Check
+checks-of-step w numbers activity = (not (usable w numbers) refuses 1 with 0) ∷ step-checks (w .activities) (w .taken) activity

@@ -1,0 +1,71 @@
+-- The templates' automata with one of the four states in each of theirs, and the tables that the watcher goes by. Nothing here has to be
+-- believed: proofs/Outlooks.antt shows that it comes to `State`.
+-- Assumes nothing.
+use Prim.Native.Nat.{ℕ, zero, suc, _+_, _-_, _*_}
+use mathlib.Core.Bool.{Bool, true, false, not, _&&_, _||_, Bool·beq}
+use mathlib.Core.List.{List, map}
+use lib.Dec.{eqb, leb}
+use Rattle.base.specs.Logic.{if_then_else_}
+use Rattle.base.specs.Lists.{range, flat-map}
+use Rattle.declare.specs.declared.constraints.Constraint.{Constraint}
+use Rattle.declare.specs.Meaning.{between}
+use Rattle.declare.specs.Automata.{next-of, verdict-of, follow, letter, stands}
+
+-- whether the template holds on a trace that ends in this state
+abbrev pub holds-in : ℕ → ℕ → Bool
+holds-in template k = stands (verdict-of template k)
+
+-- beside a, the letter that a way out may need: b, or for one activity any other, of which there is none where it is the only one declared
+abbrev pub second : ℕ → ℕ
+second template = if leb template 8 then 2 else 1
+
+-- whether at most so many letters lead from a state to one in which the template holds, or to one in which it doesn't
+abbrev pub reaches : Bool → ℕ → Bool → ℕ → ℕ → Bool
+reaches only template truth zero k = Bool·beq (holds-in template k) truth
+reaches only template truth (suc more) k =
+    Bool·beq (holds-in template k) truth
+    || reaches only template truth more (next-of template k 0)
+    || (not (only && leb template 8) && reaches only template truth more (next-of template k (second template)))
+
+-- what a state of an automaton tells, where a is the only activity declared, and else; three letters are enough
+unfoldable pub outlook-in : Bool → ℕ → ℕ → ℕ
+unfolding next-of verdict-of
+outlook-in only template k =
+    if holds-in template k
+    then (if reaches only template false 3 k then 1 else 0)
+    else (if reaches only template true 3 k then 2 else 3)
+
+-- ## The tables, flat and in bytes. A state is known by 8 times its template's number plus its own; a number that is no template's has zeros.
+
+-- where each of the three letters, in the order any other, b, a, leads from each of the 32 times 8 states
+unfoldable pub next-table : List ℕ
+unfolding next-of
+next-table =
+    flat-map (range 0 3) λ block.
+    flat-map (range 0 32) λ template.
+    map (λ k. if between 1 template 24 then 8 * template + next-of template k (2 - block) else 0) (range 0 8)
+
+-- what each state tells
+unfoldable pub outlook-table : Bool → List ℕ
+unfolding outlook-in
+outlook-table only =
+    flat-map (range 0 32) λ template.
+    map (λ k. if between 1 template 24 then outlook-in only template k else 0) (range 0 8)
+
+-- where the first table has the next state
+unfoldable pub place : ℕ → ℕ → ℕ → ℕ → ℕ
+place a b state activity = 256 * (2 - letter a b activity) + state
+
+-- ## A constraint after a trace
+
+-- the number of its automaton's state among those of its template
+abbrev pub reached : Constraint → List ℕ → ℕ
+reached c trace = follow (c .template) (c .a) (c .b) 0 trace
+
+-- its state
+abbrev pub state-after : Constraint → List ℕ → ℕ
+state-after c trace = 8 * c .template + reached c trace
+
+-- what is told of it, with n declared activities
+abbrev pub outlook : ℕ → Constraint → List ℕ → ℕ
+outlook n c trace = outlook-in (eqb n 1) (c .template) (reached c trace)
