@@ -37,9 +37,11 @@
  *   10  list shorter than four numbers for each rule to be listed  rules needed   the program that lends memory
  *   11  no run of length 1 or more kept                            0              the operator
  *   12  more than 65536 bytes of input                             0              the program that lends memory
+ *   13  rule cut short, without template 1 to 24, or wrong steps   0              the writer of the rules
+ *   14  more than 256 rules                                        0              the writer of the rules
  * What is sound, `budgieleaf_is_sound` says. A line is the log's, from 1. Add has no lines: its detail is 0 in 7, 8
  * and 9, and in 6 the place, from 1, of the first step that is not below N. Open has no answer, and so no detail. Only
- * findrules gives 12.
+ * findrules gives 12. The watcher's start gives 2, 14 and 13, its step 1, 6 and 7, all of them without a detail.
  *
  * TEMPLATES, by number with the field's names; README says when each holds.
  *    1 Existence(1)      9 Choice                   17 Precedence
@@ -108,6 +110,58 @@ uint32_t budgieleaf_read(uint32_t store[2], uint8_t *events, size_t events_lengt
  */
 uint32_t budgieleaf_find(const uint32_t store[2], const uint8_t *events, size_t events_length, const uint32_t *ends,
                          size_t ends_length, uint32_t threshold, uint16_t *list, size_t list_length, uint64_t answer[3]);
+
+/*
+ * WATCHING A RUN WHILE IT GROWS
+ *
+ * A watcher is started with the number of declared activities and at most 256 constraints, and is then given one
+ * activity after another. After the start and after each step it tells of every constraint one of four states, over the
+ * activities accepted so far. `Holds` is the template's condition without activation; a continuation is any list of
+ * declared activities, of any length, the empty one among them.
+ *
+ *   told  what it says                            the field's word         what to do
+ *    0    holds, and every continuation holds     permanently satisfied    nothing: it stays 0
+ *    1    holds, some continuation doesn't        temporarily satisfied    go on; the run may end here
+ *    2    doesn't hold, some continuation does    temporarily violated     go on; the run must not end here
+ *    3    doesn't hold, and no continuation does  permanently violated     stop: it stays 3
+ *
+ * Where a run ends, it has kept the constraints told 0 and 1.
+ *
+ * WHAT IS LENT
+ *   watcher      3 numbers, the record: N, the number of constraints, the number of activities taken. The start sets
+ *                them. To watch the next run, start again.
+ *   constraints  three numbers each: template, a, b, as budgieleaf_find lists them before the count. They are read and
+ *                never written, so they can stay in flash; each step is lent those of the start again.
+ *   states       256 bytes, one for each constraint: the states of their automata. Nothing else need be known of them.
+ *   told         256 bytes, one for each constraint: the state told, 0 to 3.
+ * Bytes of both arrays past the last constraint are never written, and nothing need be set before the start. That is 524
+ * bytes beside the constraints; a step takes 1,064 bytes of stack and a start 296, on x86-64. A step goes over the
+ * constraints once, front to back, and takes the same work for each whatever its template and state: two comparisons and
+ * two look-ups in tables, which are put onto the stack first. The time does not grow with the length of the run.
+ *
+ * What is lent must be as the calls above say. Pass the record, the arrays and the constraints on as the call before left
+ * them. Given others, a step still ends, with 0, 1, 6 or 7, and writes nothing but the 3 numbers and the 512 bytes, but
+ * what it then tells means nothing.
+ */
+
+/*
+ * Starts to watch, and tells the states before the first activity. Accepted (0): watcher is { n, constraints, 0 }.
+ * Refusals, the first that holds: 2 where n is not 1 to 32; 14 where there are more than 256 constraints, that is more
+ * than 768 numbers; 13 where a constraint is cut short (constraints_length not divisible by three), has no template 1 to
+ * 24, an a or b not below n, or a wrong pair: b not a in templates 1 to 8, a not below b in 9 to 12, a equal to b in 13
+ * to 24. A refused start changes nothing that is lent.
+ */
+uint32_t budgieleaf_watch_start(uint32_t n, uint32_t watcher[3], const uint16_t *constraints, size_t constraints_length,
+                                uint8_t states[256], uint8_t told[256]);
+
+/*
+ * One activity more. Accepted (0): told has the states over the activities accepted so far, this one among them.
+ * Refusals, the first that holds: 6 where the activity is not below N; 7 where 4096 were taken already. A refused step
+ * changes nothing that is lent, so watching goes on as if it had not been tried. 1 where the record cannot be a
+ * watcher's, or is not that of these constraints.
+ */
+uint32_t budgieleaf_watch_step(uint32_t watcher[3], const uint16_t *constraints, size_t constraints_length,
+                               uint8_t states[256], uint8_t told[256], uint32_t activity);
 
 #ifdef __cplusplus
 }

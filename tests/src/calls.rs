@@ -1,6 +1,7 @@
-//! The four calls as the tests make them. `capi::Archive` makes them through the archive, `oracle::memory::Model` in plain Rust.
+//! The calls as the tests make them. `capi::Archive` makes them through the archive, `oracle::memory::Model` and
+//! `oracle::watcher::Model` in plain Rust.
 
-use crate::lent::{Memory, Record};
+use crate::lent::{Memory, Record, Watch};
 use crate::oracle::ledger::Refusal;
 
 /// The numbers of an accepted find.
@@ -35,4 +36,10 @@ impl<C: Calls + ?Sized> Calls for &mut C {
     fn find(&mut self, memory: &Memory, threshold: u32, list: &mut [u16]) -> Result<FindAnswer, Refusal> {
         (**self).find(memory, threshold, list)
     }
+}
+
+/// Each call of a watching is lent its memory, and sets the record there.
+pub trait WatchCalls {
+    fn start(&mut self, watch: &mut Watch, n: u32) -> Result<(), Refusal>;
+    fn step(&mut self, watch: &mut Watch, activity: u32) -> Result<(), Refusal>;
 }

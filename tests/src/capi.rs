@@ -2,8 +2,8 @@
 //! against the Rattle source but these tests. Beside what a call answers, the wrappers look at each number that it must leave or
 //! set: a call that leaves or sets another ends the test at once.
 
-use crate::calls::{Calls, FindAnswer};
-use crate::lent::{Memory, Record};
+use crate::calls::{Calls, FindAnswer, WatchCalls};
+use crate::lent::{Memory, Record, Watch, Watcher, MOST_WATCHED};
 use crate::oracle::ledger::Refusal;
 
 #[link(name = "capi", kind = "static")]
@@ -40,6 +40,22 @@ extern "C" {
         list: *mut u16,
         list_length: usize,
         answer: *mut u64,
+    ) -> u32;
+    fn budgieleaf_watch_start(
+        n: u32,
+        watcher: *mut u32,
+        constraints: *const u16,
+        constraints_length: usize,
+        states: *mut u8,
+        told: *mut u8,
+    ) -> u32;
+    fn budgieleaf_watch_step(
+        watcher: *mut u32,
+        constraints: *const u16,
+        constraints_length: usize,
+        states: *mut u8,
+        told: *mut u8,
+        activity: u32,
     ) -> u32;
 }
 
@@ -180,5 +196,49 @@ impl Calls for Archive {
             replayed: number_of(replayed),
             traces: number_of(traces),
         })
+    }
+}
+
+/// A byte for each constraint that can be watched.
+pub type Bytes = [u8; MOST_WATCHED];
+
+/// The call itself, with nothing beside what is lent.
+pub fn watch_start(n: u32, watcher: &mut [u32; 3], constraints: &[u16], states: &mut Bytes, told: &mut Bytes) -> u32 {
+    let (constraints, length) = (constraints.as_ptr(), constraints.len());
+    unsafe { budgieleaf_watch_start(n, watcher.as_mut_ptr(), constraints, length, states.as_mut_ptr(), told.as_mut_ptr()) }
+}
+
+/// The call itself, with nothing beside what is lent.
+#[inline]
+pub fn watch_step(watcher: &mut [u32; 3], constraints: &[u16], states: &mut Bytes, told: &mut Bytes, activity: u32) -> u32 {
+    let (constraints, length) = (constraints.as_ptr(), constraints.len());
+    unsafe { budgieleaf_watch_step(watcher.as_mut_ptr(), constraints, length, states.as_mut_ptr(), told.as_mut_ptr(), activity) }
+}
+
+/// Lends a watching's memory to a call, the record's three numbers between marks.
+fn lend(watch: &mut Watch, call: impl FnOnce(&mut [u32; 3], &[u16], &mut Bytes, &mut Bytes) -> u32) -> Result<(), Refusal> {
+    let Watcher { activities, constraints, taken } = watch.watcher;
+    let mut whole = [MARK, activities, constraints, taken, MARK];
+    let numbers = (&mut whole[1..4]).try_into().unwrap();
+    let states = watch.states.get_mut().try_into().expect("256 states");
+    let told = watch.told.get_mut().try_into().expect("256 bytes to tell in");
+    let number = call(numbers, watch.constraints.get(), states, told);
+    let [before, activities, constraints, taken, after] = whole;
+    assert!(before == MARK && after == MARK, "written beside the watcher");
+    watch.watcher = Watcher { activities, constraints, taken };
+    if number == 0 {
+        Ok(())
+    } else {
+        Err(Refusal { number, detail: 0 })
+    }
+}
+
+impl WatchCalls for Archive {
+    fn start(&mut self, watch: &mut Watch, n: u32) -> Result<(), Refusal> {
+        lend(watch, |watcher, constraints, states, told| watch_start(n, watcher, constraints, states, told))
+    }
+
+    fn step(&mut self, watch: &mut Watch, activity: u32) -> Result<(), Refusal> {
+        lend(watch, |watcher, constraints, states, told| watch_step(watcher, constraints, states, told, activity))
     }
 }

@@ -1,4 +1,4 @@
-//! What a call is lent: a store's memory, and slices with something on both sides of them.
+//! What a call is lent: a store's memory, a watching's memory, and slices with something on both sides of them.
 
 use crate::rng::Rng;
 
@@ -70,10 +70,67 @@ impl Memory {
     }
 }
 
+/// What a slice holds, or how it begins.
+fn short<T: std::fmt::Debug>(slice: &[T]) -> String {
+    let s = format!("{slice:?}");
+    if s.len() > 600 {
+        format!("{}..", &s[..600])
+    } else {
+        s
+    }
+}
+
 impl std::fmt::Debug for Memory {
     fn fmt(&self, f: &mut std::fmt::Formatter) -> std::fmt::Result {
-        let short = |s: String| if s.len() > 600 { format!("{}..", &s[..600]) } else { s };
-        let (events, ends) = (format!("{:?}", self.events.get()), format!("{:?}", self.ends.get()));
-        write!(f, "{:?} events {} ends {}", self.record, short(events), short(ends))
+        write!(f, "{:?} events {} ends {}", self.record, short(self.events.get()), short(self.ends.get()))
+    }
+}
+
+/// The most constraints that are watched, and the bytes lent for their states and for what is told of them, each.
+pub const MOST_WATCHED: usize = 256;
+
+/// The record of a watching: N, the number of constraints and of activities taken so far.
+#[derive(Clone, Copy, PartialEq, Eq, Debug)]
+pub struct Watcher {
+    pub activities: u32,
+    pub constraints: u32,
+    pub taken: u32,
+}
+
+/// The record of a watching beside its constraints, their states and what is told.
+#[derive(Clone, PartialEq, Eq)]
+pub struct Watch {
+    pub watcher: Watcher,
+    pub constraints: Lent<u16>,
+    pub states: Lent<u8>,
+    pub told: Lent<u8>,
+}
+
+impl Watch {
+    /// These constraints, and anything else: a start is to set it.
+    pub fn of(rng: &mut Rng, constraints: &[u16]) -> Watch {
+        let mut number = || rng.next() as u32 >> rng.below(32);
+        let watcher = Watcher { activities: number(), constraints: number(), taken: number() };
+        let constraints = Lent::of(rng, constraints);
+        let mut bytes = || Lent::new(rng, MOST_WATCHED, |rng| rng.byte());
+        Watch { watcher, constraints, states: bytes(), told: bytes() }
+    }
+
+    /// The first part that is not as in the other; what stands beside a slice belongs to it.
+    pub fn difference(&self, other: &Watch) -> Option<&'static str> {
+        let parts = [
+            ("watcher", self.watcher == other.watcher),
+            ("constraints", self.constraints == other.constraints),
+            ("states", self.states == other.states),
+            ("told", self.told == other.told),
+        ];
+        parts.into_iter().find(|&(_, same)| !same).map(|(part, _)| part)
+    }
+}
+
+impl std::fmt::Debug for Watch {
+    fn fmt(&self, f: &mut std::fmt::Formatter) -> std::fmt::Result {
+        let (constraints, states, told) = (short(self.constraints.get()), short(self.states.get()), short(self.told.get()));
+        write!(f, "{:?} constraints {constraints} states {states} told {told}", self.watcher)
     }
 }

@@ -5,6 +5,9 @@ use eventlog::AddAnswer;
 use eventlog::OpenAnswer;
 use eventlog::Refusal;
 use eventlog::Store;
+use watcher::StartAnswer;
+use watcher::StepAnswer;
+use watcher::Watcher;
 ghost use mathlib.Core.Path.{_≡_};
 ghost use mathlib.Core.List.{[], _∷_};
 ghost use Rattle.base.specs.Checks.{refused};
@@ -12,7 +15,8 @@ ghost use Rattle.eventlog.specs.Store.{sound};
 ghost use Rattle.eventlog.specs.Calls.{open-said, add-said};
 ghost use Rattle.columns.specs.Calls.{read-said};
 ghost use Rattle.discovery.specs.Calls.{find-said};
-ghost use Rattle.capi.specs.Numbers.{lent-numbers, number-of, Replied, opened, OpenCalled, AddCalled, ReadCalled, FindCalled};
+ghost use Rattle.watcher.specs.Calls.{lent, start-said, step-said};
+ghost use Rattle.capi.specs.Numbers.{lent-numbers, number-of, Replied, opened, OpenCalled, AddCalled, ReadCalled, FindCalled, lent-watched, StartCalled, StepCalled};
 
 fn put_store(numbers: &mut [u32; 2], store: Store)
     ensures { λ _. ⌜ now (numbers .exit) ≡ store .activities ∷ store .traces ∷ [] ⌝ }
@@ -168,4 +172,68 @@ pub extern "C" fn budgieleaf_find(
         traces: store[1],
     };
     put_found(answer, discovery::find(kept, events, ends, threshold, list))
+}
+
+fn put_watcher(numbers: &mut [u32; 3], watcher: Watcher)
+    ensures { λ _. ⌜ now (numbers .exit) ≡ watcher .activities ∷ watcher .constraints ∷ watcher .taken ∷ [] ⌝ }
+{
+    *numbers = [watcher.activities, watcher.constraints, watcher.taken];
+}
+
+fn put_started(watch: &mut [u32; 3], said: StartAnswer) -> u32
+    ensures { λ r. ⌜ (r ≡ number-of (start-said said)) × (now (watch .exit) ≡ opened (now (watch .entry)) (start-said said)) ⌝ }
+{
+    match said {
+        StartAnswer::Started(new) => {
+            put_watcher(watch, new);
+            0
+        }
+        StartAnswer::Refused(refusal) => refusal.number as u32,
+    }
+}
+
+fn number_of_step(said: StepAnswer) -> u32
+    ensures { λ r. ⌜ r ≡ number-of (step-said said) ⌝ }
+{
+    match said {
+        StepAnswer::Taken => 0,
+        StepAnswer::Refused(refusal) => refusal.number as u32,
+    }
+}
+
+#[no_mangle]
+pub extern "C" fn budgieleaf_watch_start(
+    n: u32,
+    watch: &mut [u32; 3],
+    constraints: &[u16],
+    states: &mut [u8; 256],
+    told: &mut [u8; 256],
+) -> u32
+    ensures { λ r. ⌜ StartCalled n (now (constraints .entry)) (lent (states .entry) (told .entry)) (now (watch .entry))
+        r (now (watch .exit)) (lent (states .exit) (told .exit)) ⌝ }
+{
+    put_started(watch, watcher::start(n, constraints, states, told))
+}
+
+#[no_mangle]
+pub extern "C" fn budgieleaf_watch_step(
+    watch: &mut [u32; 3],
+    constraints: &[u16],
+    states: &mut [u8; 256],
+    told: &mut [u8; 256],
+    activity: u32,
+) -> u32
+    ensures { λ r. ⌜ StepCalled (now (constraints .entry)) (lent-watched (watch .entry) (states .entry) (told .entry)) activity
+        r (lent-watched (watch .exit) (states .exit) (told .exit)) ⌝ }
+{
+    let kept = Watcher {
+        activities: watch[0],
+        constraints: watch[1],
+        taken: watch[2],
+    };
+    let result = watcher::step(kept, constraints, states, told, activity);
+    let after = result.watcher;
+    *watch = [after.activities, after.constraints, after.taken];
+    let said = result.answer;
+    number_of_step(said)
 }

@@ -35,11 +35,11 @@ front-all new n l e = ap (λ r. r ++ drop n l) (take-all n new (omega arith))
 
 -- ## The loops
 
-module _ (outlooks : List ℕ) (turn : ℕ → Lent → Lent) (count : ℕ) (new : ℕ → ℕ) (l₀ : Lent)
-    (each : (i : ℕ) (l : Lent) → i < count → getD (l .states) i 0 ≡ getD (l₀ .states) i 0 → turn i l ≡ put outlooks i (new i) l)
+module _ (table : List ℕ) (turn : ℕ → Lent → Lent) (count : ℕ) (new : ℕ → ℕ) (l₀ : Lent)
+    (each : (i : ℕ) (l : Lent) → i < count → getD (l .states) i 0 ≡ getD (l₀ .states) i 0 → turn i l ≡ put table i (new i) l)
     (states-fit : count ≤ length (l₀ .states)) (told-fit : count ≤ length (l₀ .told)) where
   tell : ℕ → ℕ
-  tell i = getD outlooks (new i) 0
+  tell i = getD table (4 * new i + 3) 0
 
   listed : (ℕ → ℕ) → List ℕ
   listed f = map f (range 0 count)
@@ -75,7 +75,7 @@ module _ (outlooks : List ℕ) (turn : ℕ → Lent → Lent) (count : ℕ) (new
       each-of turn count 0 l₀
       ≡ record {
         states = map new (range 0 count) ++ drop count (l₀ .states);
-        told = map (λ i. getD outlooks (new i) 0) (range 0 count) ++ drop count (l₀ .told);
+        told = map (λ i. getD table (4 * new i + 3) 0) (range 0 count) ++ drop count (l₀ .told);
       }
   unfolding partly tell listed
   filled =

@@ -21,7 +21,7 @@ use Rattle.declare.specs.Constraints.{pairs, Over}
 use Rattle.declare.proofs.Shifting.{follow-small}
 use Rattle.eventlog.specs.Store.{declarable}
 use Rattle.watcher.specs.Calls.{constraint-at, given, proper, well-formed, Lent, after, start-checks}
-use Rattle.watcher.specs.Table.{next-table, outlook-table, place, reached, state-after, outlook}
+use Rattle.watcher.specs.Table.{table, place, reached, state-after, outlook}
 use Rattle.watcher.specs.Loops.{each-of, put, first-turn, turn-by}
 use Rattle.watcher.proofs.Outlooks.{follow-append}
 use Rattle.watcher.proofs.Turning.{all-from, all-given}
@@ -111,26 +111,26 @@ module _ (n : ℕ) (numbers : List ℕ) (started : reply (start-checks n numbers
       (all-range (λ i. proper n (constraint-at numbers i)) 0 (length numbers / 3 - 0) i
       (sym (all-given n numbers) ∙ all-proper) (omega arith) (omega arith))
 
-  outlooks : List ℕ
-  outlooks = outlook-table (eqb n 1)
+  table-here : List ℕ
+  table-here = table (eqb n 1)
 
   state-at : List ℕ → ℕ → ℕ
   state-at trace i = state-after (constraint-at numbers i) trace
 
   -- what is told is what the states tell
-  told-by : (trace : List ℕ) (i : ℕ) → i < count numbers → outlook n (constraint-at numbers i) trace ≡ getD outlooks (state-at trace i) 0
-  unfolding count outlooks state-at
+  told-by : (trace : List ℕ) (i : ℕ) → i < count numbers → outlook n (constraint-at numbers i) trace ≡ getD table-here (4 * state-at trace i + 3) 0
+  unfolding count table-here state-at
   told-by trace i h =
       let c = constraint-at numbers i in
       let over = each-over i h in
       let small = follow-small (c .template) (over .0) (over .1) (c .a) (c .b) 0 trace (omega arith) in
-      sym (outlook-there (c .template) (reached c trace) (over .0) (over .1) small (eqb n 1))
+      sym (outlook-there (eqb n 1) (c .template) (reached c trace) (over .0) (over .1) small)
 
   after-placed : (before : Lent) (trace : List ℕ)
       → after n numbers before trace
       ≡ record {
         states = placed numbers (state-at trace) (before .states);
-        told = placed numbers (λ i. getD outlooks (state-at trace i) 0) (before .told);
+        told = placed numbers (λ i. getD table-here (4 * state-at trace i + 3) 0) (before .told);
       }
   unfolding state-at
   after-placed before trace =
@@ -138,17 +138,17 @@ module _ (n : ℕ) (numbers : List ℕ) (started : reply (start-checks n numbers
       (by-places numbers (λ c. state-after c trace) (before .states))
       (by-places numbers (λ c. outlook n c trace) (before .told)
       ∙ ap (λ l. l ++ drop (count numbers) (before .told))
-      (same-on-range (λ i. outlook n (constraint-at numbers i) trace) (λ i. getD outlooks (state-at trace i) 0) 0 (count numbers)
+      (same-on-range (λ i. outlook n (constraint-at numbers i) trace) (λ i. getD table-here (4 * state-at trace i + 3) 0) 0 (count numbers)
       (λ i h. told-by trace i (omega arith))))
 
   module _ (before : Lent) (states-fit : length numbers / 3 ≤ length (before .states)) (told-fit : length numbers / 3 ≤ length (before .told)) where
-    pub starting : each-of (first-turn (outlook-table (eqb n 1)) numbers) (length numbers / 3) 0 before ≡ after n numbers before []
-    unfolding count outlooks state-at
+    pub starting : each-of (first-turn (table (eqb n 1)) numbers) (length numbers / 3) 0 before ≡ after n numbers before []
+    unfolding count table-here state-at
     starting =
-        filled outlooks (first-turn outlooks numbers) (count numbers) (state-at []) before
+        filled table-here (first-turn table-here numbers) (count numbers) (state-at []) before
         (λ i l h same.
         let over = each-over i h in
-        ap (λ k. put outlooks i k l) (omega arith))
+        ap (λ k. put table-here i k l) (omega arith))
         states-fit told-fit
         ∙ sym (after-placed before [])
 
@@ -156,31 +156,31 @@ module _ (n : ℕ) (numbers : List ℕ) (started : reply (start-checks n numbers
       (states-fit : length numbers / 3 ≤ length (after n numbers before trace .states))
       (told-fit : length numbers / 3 ≤ length (after n numbers before trace .told)) where
     next-state : (i : ℕ) → i < count numbers → (state : ℕ) → state ≡ state-at trace i
-        → getD next-table (place (constraint-at numbers i .a) (constraint-at numbers i .b) state activity) 0 ≡ state-at (trace ++ (activity ∷ [])) i
-    unfolding count state-at
+        → getD table-here (place (constraint-at numbers i .a) (constraint-at numbers i .b) state activity) 0 ≡ state-at (trace ++ (activity ∷ [])) i
+    unfolding count state-at table-here
     next-state i h state e =
         let c = constraint-at numbers i in
         let over = each-over i h in
         let small = follow-small (c .template) (over .0) (over .1) (c .a) (c .b) 0 trace (omega arith) in
-        ap (λ k. getD next-table (place (c .a) (c .b) k activity) 0) e
-        ∙ next-there (c .template) (reached c trace) (over .0) (over .1) small (c .a) (c .b) activity
-        ∙ ap (λ k. 8 * c .template + k) (sym (follow-append (c .template) (c .a) (c .b) 0 trace (activity ∷ [])))
+        ap (λ k. getD table-here (place (c .a) (c .b) k activity) 0) e
+        ∙ next-there (eqb n 1) (c .template) (reached c trace) (over .0) (over .1) small (c .a) (c .b) activity
+        ∙ ap (λ k. c .template + 32 * k) (sym (follow-append (c .template) (c .a) (c .b) 0 trace (activity ∷ [])))
 
     pub stepping :
-        each-of (turn-by next-table (outlook-table (eqb n 1)) numbers activity) (length numbers / 3) 0 (after n numbers before trace)
+        each-of (turn-by (table (eqb n 1)) numbers activity) (length numbers / 3) 0 (after n numbers before trace)
         ≡ after n numbers before (trace ++ (activity ∷ []))
-    unfolding count outlooks
+    unfolding count table-here
     stepping =
         let l₀ = after n numbers before trace in
         let known = after-placed before trace in
-        let tell : ℕ → ℕ = λ i. getD outlooks (state-at (trace ++ (activity ∷ [])) i) 0 in
-        filled outlooks (turn-by next-table outlooks numbers activity) (count numbers) (state-at (trace ++ (activity ∷ []))) l₀
+        let tell : ℕ → ℕ = λ i. getD table-here (4 * state-at (trace ++ (activity ∷ [])) i + 3) 0 in
+        filled table-here (turn-by table-here numbers activity) (count numbers) (state-at (trace ++ (activity ∷ []))) l₀
         (λ i l h same.
-        ap (λ k. put outlooks i k l)
+        ap (λ k. put table-here i k l)
         (next-state i h (getD (l .states) i 0)
         (same ∙ ap (λ (l : Lent). getD (l .states) i 0) known ∙ placed-at numbers (state-at trace) (before .states) i h)))
         states-fit told-fit
         ∙ ap₂ (λ x y. record { states = map (state-at (trace ++ (activity ∷ []))) (range 0 (count numbers)) ++ x; told = map tell (range 0 (count numbers)) ++ y })
         (ap (λ (l : Lent). drop (count numbers) (l .states)) known ∙ placed-past numbers (state-at trace) (before .states))
-        (ap (λ (l : Lent). drop (count numbers) (l .told)) known ∙ placed-past numbers (λ i. getD outlooks (state-at trace i) 0) (before .told))
+        (ap (λ (l : Lent). drop (count numbers) (l .told)) known ∙ placed-past numbers (λ i. getD table-here (4 * state-at trace i + 3) 0) (before .told))
         ∙ sym (after-placed before (trace ++ (activity ∷ [])))

@@ -12,7 +12,7 @@ use Rattle.eventlog.specs.declared.Refusal.{Refusal}
 use Rattle.watcher.specs.declared.Watcher.{Watcher}
 use Rattle.watcher.specs.declared.StartAnswer.{StartAnswer}
 use Rattle.watcher.specs.Calls.{Lent, after, watcher-after, start-checks, start-said, Starts}
-use Rattle.watcher.specs.Table.{outlook-table}
+use Rattle.watcher.specs.Table.{table}
 use Rattle.watcher.specs.Loops.{each-of, first-turn}
 use Rattle.watcher.proofs.Making.{not-many, none-cut, starting}
 
@@ -51,7 +51,7 @@ module _ (n : ℕ) (numbers : List ℕ) (answer : StartAnswer)
         (omega arith, omega arith)
 
     pub starts-started : (l left : Lent) → 256 ≤ length (l .states) → 256 ≤ length (l .told)
-        → left ≡ each-of (first-turn (outlook-table (eqb (watcher .activities) 1)) numbers) (watcher .constraints) 0 l → Starts n numbers l answer left
+        → left ≡ each-of (first-turn (table (eqb (watcher .activities) 1)) numbers) (watcher .constraints) 0 l → Starts n numbers l answer left
     starts-started l left states-fit told-fit turned =
         let few = started-few .1 in
         let same : watcher .constraints ≡ length numbers / 3 = ap (λ (w : Watcher). w .constraints) started-watcher in
@@ -59,7 +59,7 @@ module _ (n : ℕ) (numbers : List ℕ) (answer : StartAnswer)
           says = said;
           leaves =
               turned
-              ∙ ap (λ (w : Watcher). each-of (first-turn (outlook-table (eqb (w .activities) 1)) numbers) (w .constraints) 0 l) started-watcher
+              ∙ ap (λ (w : Watcher). each-of (first-turn (table (eqb (w .activities) 1)) numbers) (w .constraints) 0 l) started-watcher
               ∙ starting n numbers start-passed l (omega arith) (omega arith)
               ∙ sym (given-new (start-checks n numbers) _ _ (sym given-it) (after n numbers l []) l);
         }

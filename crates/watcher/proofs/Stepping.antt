@@ -17,7 +17,7 @@ use Rattle.eventlog.specs.Store.{declarable, most-activities, longest-trace, al
 use Rattle.watcher.specs.declared.Watcher.{Watcher}
 use Rattle.watcher.specs.declared.StepAnswer.{StepAnswer}
 use Rattle.watcher.specs.Calls.{most-constraints, Lent, after, watcher-after, start-checks, step-checks, taking, step-said, Memory, Made, ends-so, Steps}
-use Rattle.watcher.specs.Table.{next-table, outlook-table}
+use Rattle.watcher.specs.Table.{table}
 use Rattle.watcher.specs.Loops.{each-of, turn-by, usable, checks-of-step}
 use Rattle.watcher.proofs.Making.{not-many, none-cut, few-activities, stepping}
 
@@ -99,7 +99,7 @@ module _ (numbers : List ℕ) (m : Memory) (activity : ℕ) (answer : StepAnswer
 
     -- what is left where a start and steps made the memory
     next-made : (n : ℕ) (before : Lent) (trace : List ℕ) → Made n numbers before trace m → (l : Lent)
-        → l ≡ each-of (turn-by next-table (outlook-table (eqb (m .watcher .activities) 1)) numbers activity) (m .watcher .constraints) 0 (m .lent)
+        → l ≡ each-of (turn-by (table (eqb (m .watcher .activities) 1)) numbers activity) (m .watcher .constraints) 0 (m .lent)
         → Made n numbers before (trace ++ (activity ∷ []))
         (record {
           watcher = record { activities = m .watcher .activities; constraints = m .watcher .constraints; taken = m .watcher .taken + 1 };
@@ -120,13 +120,13 @@ module _ (numbers : List ℕ) (m : Memory) (activity : ℕ) (answer : StepAnswer
           watcher = λ i. record { activities = made .watcher i .activities; constraints = made .watcher i .constraints; taken = taken i };
           lent =
               turned
-              ∙ ap₂ (λ (w : Watcher) (k : Lent). each-of (turn-by next-table (outlook-table (eqb (w .activities) 1)) numbers activity) (w .constraints) 0 k)
+              ∙ ap₂ (λ (w : Watcher) (k : Lent). each-of (turn-by (table (eqb (w .activities) 1)) numbers activity) (w .constraints) 0 k)
               (made .watcher) (made .lent)
               ∙ stepping n numbers (made .started) before trace activity (omega arith) (omega arith);
         }
 
     pub steps-taken : (l : Lent)
-        → l ≡ each-of (turn-by next-table (outlook-table (eqb (m .watcher .activities) 1)) numbers activity) (m .watcher .constraints) 0 (m .lent)
+        → l ≡ each-of (turn-by (table (eqb (m .watcher .activities) 1)) numbers activity) (m .watcher .constraints) 0 (m .lent)
         → Steps numbers m activity answer
         (record {
           watcher = record { activities = m .watcher .activities; constraints = m .watcher .constraints; taken = m .watcher .taken + 1 };

@@ -19,16 +19,16 @@ each-of turn (suc more) at l = each-of turn more (suc at) (turn at l)
 
 -- a constraint's new state, and what it tells
 abbrev pub put : List ℕ → ℕ → ℕ → Lent → Lent
-put outlooks at state l = record { states = set (l .states) at state; told = set (l .told) at (getD outlooks state 0) }
+put table at state l = record { states = set (l .states) at state; told = set (l .told) at (getD table (4 * state + 3) 0) }
 
 -- before the first event
 abbrev pub first-turn : List ℕ → List ℕ → ℕ → Lent → Lent
-first-turn outlooks numbers at l = put outlooks at (8 * (getD numbers (3 * at) 0 % 32)) l
+first-turn table numbers at l = put table at (getD numbers (3 * at) 0 % 32) l
 
 -- an event
-abbrev pub turn-by : List ℕ → List ℕ → List ℕ → ℕ → ℕ → Lent → Lent
-turn-by next outlooks numbers activity at l =
-    put outlooks at (getD next (place (getD numbers (3 * at + 1) 0) (getD numbers (3 * at + 2) 0) (getD (l .states) at 0) activity) 0) l
+abbrev pub turn-by : List ℕ → List ℕ → ℕ → ℕ → Lent → Lent
+turn-by table numbers activity at l =
+    put table at (getD table (place (getD numbers (3 * at + 1) 0) (getD numbers (3 * at + 2) 0) (getD (l .states) at 0) activity) 0) l
 
 -- ## The checks of any memory
 

@@ -1,14 +1,13 @@
--- The templates' automata with one of the four states in each of theirs, and the tables that the watcher goes by. Nothing here has to be
+-- The templates' automata with one of the four states in each of theirs, and the table that the watcher goes by. Nothing here has to be
 -- believed: proofs/Outlooks.antt shows that it comes to `State`.
 -- Assumes nothing.
 use Prim.Native.Nat.{ℕ, zero, suc, _+_, _-_, _*_}
 use mathlib.Core.Bool.{Bool, true, false, not, _&&_, _||_, Bool·beq}
-use mathlib.Core.List.{List, map}
+use mathlib.Core.List.{List, [], _∷_}
 use lib.Dec.{eqb, leb}
 use Rattle.base.specs.Logic.{if_then_else_}
 use Rattle.base.specs.Lists.{range, flat-map}
 use Rattle.declare.specs.declared.constraints.Constraint.{Constraint}
-use Rattle.declare.specs.Meaning.{between}
 use Rattle.declare.specs.Automata.{next-of, verdict-of, follow, letter, stands}
 
 -- whether the template holds on a trace that ends in this state
@@ -35,26 +34,21 @@ outlook-in only template k =
     then (if reaches only template false 3 k then 1 else 0)
     else (if reaches only template true 3 k then 2 else 3)
 
--- ## The tables, flat and in bytes. A state is known by 8 times its template's number plus its own; a number that is no template's has zeros.
+-- ## The table, flat and in bytes: 8 states of 32 numbers for templates, in that order, and for each state four numbers: where any other
+-- event, b and a lead, and what it tells. A state is known by its template's number plus 32 times its own, so that any byte is one; numbers
+-- that are no template's have entries too, which nothing comes to.
 
--- where each of the three letters, in the order any other, b, a, leads from each of the 32 times 8 states
-unfoldable pub next-table : List ℕ
-unfolding next-of
-next-table =
-    flat-map (range 0 3) λ block.
+unfoldable pub table : Bool → List ℕ
+unfolding next-of outlook-in
+table only =
+    flat-map (range 0 8) λ k.
     flat-map (range 0 32) λ template.
-    map (λ k. if between 1 template 24 then 8 * template + next-of template k (2 - block) else 0) (range 0 8)
+    let led : ℕ → ℕ = λ letter. template + 32 * next-of template k letter in
+    led 2 ∷ led 1 ∷ led 0 ∷ outlook-in only template k ∷ []
 
--- what each state tells
-unfoldable pub outlook-table : Bool → List ℕ
-unfolding outlook-in
-outlook-table only =
-    flat-map (range 0 32) λ template.
-    map (λ k. if between 1 template 24 then outlook-in only template k else 0) (range 0 8)
-
--- where the first table has the next state
+-- where the table has the next state
 unfoldable pub place : ℕ → ℕ → ℕ → ℕ → ℕ
-place a b state activity = 256 * (2 - letter a b activity) + state
+place a b state activity = 4 * state + (2 - letter a b activity)
 
 -- ## A constraint after a trace
 
@@ -64,7 +58,7 @@ reached c trace = follow (c .template) (c .a) (c .b) 0 trace
 
 -- its state
 abbrev pub state-after : Constraint → List ℕ → ℕ
-state-after c trace = 8 * c .template + reached c trace
+state-after c trace = c .template + 32 * reached c trace
 
 -- what is told of it, with n declared activities
 abbrev pub outlook : ℕ → Constraint → List ℕ → ℕ

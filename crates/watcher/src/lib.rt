@@ -1,6 +1,6 @@
 // Watching a trace while it grows (document 02, request 3): for each of at most 256 constraints whether it holds so far, and whether that can
 // still change.
-mod tables;
+mod table;
 
 use eventlog::Refusal;
 ghost use mathlib.Core.Path.{_≡_};
@@ -13,7 +13,7 @@ ghost use Rattle.base.specs.Checks.{reply};
 ghost use Rattle.declare.specs.Automata.{letter};
 ghost use Rattle.declare.specs.Constraints.{constraint, pairs};
 ghost use Rattle.watcher.specs.Calls.{lent, beside, given, proper, well-formed, start-checks, start-said, Starts, step-said, Steps};
-ghost use Rattle.watcher.specs.Table.{next-table, outlook-table, place};
+ghost use Rattle.watcher.specs.Table.{table as table-of, place};
 ghost use Rattle.watcher.specs.Loops.{each-of, first-turn as turned-first, turn-by, usable, checks-of-step};
 
 // The record: how many activities are declared, constraints watched, and activities taken so far.
@@ -48,49 +48,43 @@ pub const NO_CONSTRAINT: u8 = 13;
 
 pub const TOO_MANY: u8 = 14;
 
-fn next_table() -> [u8; 768]
-    ensures { λ r. ⌜ r ≡ next-table ⌝ }
+// The table, with so many declared activities. Where there is one alone, every event is that one, so that template 8 (End), once it holds,
+// holds with every continuation.
+fn table_for(activities: u32) -> [u8; 1024]
+    ensures { λ r. ⌜ r ≡ table-of (eqb activities 1) ⌝ }
 {
-    tables::NEXT
-}
-
-// What each state tells, with so many declared activities. Where there is one alone, every event is that one, so that template 8 (End), once
-// it holds, holds with every continuation.
-fn outlooks_for(activities: u32) -> [u8; 256]
-    ensures { λ r. ⌜ r ≡ outlook-table (eqb activities 1) ⌝ }
-{
-    let mut outlooks = tables::OUTLOOKS;
+    let mut table = table::TABLE;
     if activities == 1 {
-        outlooks[65] = 0;
+        table[163] = 0;
     }
-    outlooks
+    table
 }
 
-// Where the next states under an event's letter begin. The test for b stands first, since both are then made without a jump.
-fn block_of(a: u16, b: u16, activity: u16) -> usize
-    ensures { λ r. ⌜ r ≡ 256 * (2 - letter a b activity) ⌝ }
+// Which of a state's four numbers an event's letter takes. The test for b stands first: then both are made without a jump.
+fn column_of(a: u16, b: u16, activity: u16) -> usize
+    ensures { λ r. ⌜ r ≡ 2 - letter a b activity ⌝ }
 {
-    let unless_a = if activity == b { 256 } else { 0 };
-    if activity == a { 512 } else { unless_a }
+    let unless_a = if activity == b { 1 } else { 0 };
+    if activity == a { 2 } else { unless_a }
 }
 
 // Where the table has the next state. Any numbers may come in.
 fn place_of(a: u16, b: u16, state: u8, activity: u16) -> usize
-    ensures { λ r. ⌜ (r ≡ place a b state activity) × (r < 768) ⌝ }
+    ensures { λ r. ⌜ (r ≡ place a b state activity) × (r < 1024) ⌝ }
 {
-    block_of(a, b, activity) + state as usize
+    4 * state as usize + column_of(a, b, activity)
 }
 
-fn outlook_of(outlooks: &[u8; 256], state: u8) -> u8
-    ensures { λ r. ⌜ r ≡ getD (now (outlooks .entry)) state 0 ⌝ }
+// What a state tells.
+fn outlook_of(table: &[u8; 1024], state: u8) -> u8
+    ensures { λ r. ⌜ r ≡ getD (now (table .entry)) (4 * state + 3) 0 ⌝ }
 {
-    outlooks[state as usize]
+    table[4 * state as usize + 3]
 }
 
 // One constraint, one event on.
 fn turn(
-    next: &[u8; 768],
-    outlooks: &[u8; 256],
+    table: &[u8; 1024],
     numbers: &[u16],
     at: usize,
     states: &mut [u8],
@@ -99,54 +93,53 @@ fn turn(
 )
     requires { ⌜ (3 * at + 2 < length (now numbers)) × (at < length (now states)) × (at < length (now told)) ⌝ }
     ensures { λ _. ⌜ lent (states .exit) (told .exit)
-        ≡ turn-by (now (next .entry)) (now (outlooks .entry)) (now (numbers .entry)) activity at (lent (states .entry) (told .entry)) ⌝ }
+        ≡ turn-by (now (table .entry)) (now (numbers .entry)) activity at (lent (states .entry) (told .entry)) ⌝ }
 {
     let from = NUMBERS * at;
-    let state = next[place_of(numbers[from + 1], numbers[from + 2], states[at], activity)];
+    let state = table[place_of(numbers[from + 1], numbers[from + 2], states[at], activity)];
     states[at] = state;
-    told[at] = outlook_of(outlooks, state);
+    told[at] = outlook_of(table, state);
 }
 
 // Every constraint, one event on.
 fn turns(watcher: Watcher, numbers: &[u16], states: &mut [u8], told: &mut [u8], activity: u16)
     requires { ⌜ (3 * watcher .constraints ≤ length (now numbers)) × (watcher .constraints ≤ length (now states)) × (watcher .constraints ≤ length (now told)) ⌝ }
     ensures { λ _. ⌜ lent (states .exit) (told .exit)
-        ≡ each-of (turn-by next-table (outlook-table (eqb (watcher .activities) 1)) (now (numbers .entry)) activity) (watcher .constraints) 0
+        ≡ each-of (turn-by (table-of (eqb (watcher .activities) 1)) (now (numbers .entry)) activity) (watcher .constraints) 0
         (lent (states .entry) (told .entry)) ⌝ }
 {
-    let next = next_table();
-    let outlooks = outlooks_for(watcher.activities);
+    let table = table_for(watcher.activities);
     let count = watcher.constraints as usize;
     let mut at = 0;
     while at < count {
-        turn(&next, &outlooks, numbers, at, states, told, activity);
+        turn(&table, numbers, at, states, told, activity);
         at += 1;
     }
 }
 
 // One constraint, before the first event.
-fn first_turn(outlooks: &[u8; 256], numbers: &[u16], at: usize, states: &mut [u8], told: &mut [u8])
+fn first_turn(table: &[u8; 1024], numbers: &[u16], at: usize, states: &mut [u8], told: &mut [u8])
     requires { ⌜ (3 * at < length (now numbers)) × (at < length (now states)) × (at < length (now told)) ⌝ }
     ensures { λ _. ⌜ lent (states .exit) (told .exit)
-        ≡ turned-first (now (outlooks .entry)) (now (numbers .entry)) at (lent (states .entry) (told .entry)) ⌝ }
+        ≡ turned-first (now (table .entry)) (now (numbers .entry)) at (lent (states .entry) (told .entry)) ⌝ }
 {
-    let state = (8 * (numbers[NUMBERS * at] % 32)) as u8;
+    let state = (numbers[NUMBERS * at] % 32) as u8;
     states[at] = state;
-    told[at] = outlook_of(outlooks, state);
+    told[at] = outlook_of(table, state);
 }
 
 // Every constraint, before the first event.
 fn first_turns(watcher: Watcher, numbers: &[u16], states: &mut [u8], told: &mut [u8])
     requires { ⌜ (3 * watcher .constraints ≤ length (now numbers)) × (watcher .constraints ≤ length (now states)) × (watcher .constraints ≤ length (now told)) ⌝ }
     ensures { λ _. ⌜ lent (states .exit) (told .exit)
-        ≡ each-of (turned-first (outlook-table (eqb (watcher .activities) 1)) (now (numbers .entry))) (watcher .constraints) 0
+        ≡ each-of (turned-first (table-of (eqb (watcher .activities) 1)) (now (numbers .entry))) (watcher .constraints) 0
         (lent (states .entry) (told .entry)) ⌝ }
 {
-    let outlooks = outlooks_for(watcher.activities);
+    let table = table_for(watcher.activities);
     let count = watcher.constraints as usize;
     let mut at = 0;
     while at < count {
-        first_turn(&outlooks, numbers, at, states, told);
+        first_turn(&table, numbers, at, states, told);
         at += 1;
     }
 }

@@ -1,13 +1,18 @@
-//! `find` through the archive beside a plain Rust finder: the same logs, one process.
+//! `find` and the watcher's steps through the archive beside a plain Rust finder and a plain watcher: the same logs and lists, one
+//! process.
 //!
 //!     cargo run --release --bin bench                   times and their ratios
-//!     cargo run --release --bin bench -- instructions   instructions for each event replayed, counted by valgrind
+//!     cargo run --release --bin bench -- watcher        those of the watcher alone
+//!     cargo run --release --bin bench -- instructions   instructions for each event replayed and for each constraint watched, counted
+//!                                                       by valgrind (of the watcher alone: -- watcher instructions)
 
 use budgieleaf_tests::calls::{Calls, FindAnswer};
-use budgieleaf_tests::capi::Archive;
-use budgieleaf_tests::lent::{Memory, Record};
-use budgieleaf_tests::oracle::finder::{room_for_all, NUMBERS};
+use budgieleaf_tests::capi::{watch_start, watch_step, Archive, Bytes};
+use budgieleaf_tests::lent::{Memory, Record, MOST_WATCHED};
+use budgieleaf_tests::oracle::finder::{constraints, room_for_all, Constraint, NUMBERS};
+use budgieleaf_tests::oracle::watcher::numbers;
 use budgieleaf_tests::plain::{by_bytes, by_library, find, Automaton};
+use budgieleaf_tests::plain_watcher::{step_lent, Table, Watcher};
 use budgieleaf_tests::rng::Rng;
 use std::hint::black_box;
 use std::process::Command;
@@ -210,12 +215,12 @@ fn print_times() {
     println!("nanoseconds an event replayed, few long: {} by the archive; a shift alone: {:.2}", long.join(", "), shift_alone());
 }
 
-/// Runs one find under callgrind, in a process of its own, and gives the instructions of the find alone.
-fn instructions(which: usize, at: usize, room: usize) -> u64 {
+/// Runs this program with these words under callgrind, in a process of its own, and gives the instructions of one function alone.
+fn instructions(function: &str, words: &[&str]) -> u64 {
     let out = Command::new("valgrind")
-        .args(["--tool=callgrind", "--callgrind-out-file=/dev/null", "--toggle-collect=bench_find"])
+        .args(["--tool=callgrind", "--callgrind-out-file=/dev/null", &format!("--toggle-collect={function}")])
         .arg(std::env::current_exe().unwrap())
-        .args(["one", &which.to_string(), &at.to_string(), &room.to_string()])
+        .args(words)
         .output()
         .expect("valgrind runs");
     let said = String::from_utf8_lossy(&out.stderr).to_string();
@@ -235,7 +240,10 @@ fn print_instructions() {
         let said = bench_find(2, &automaton, log, &mut list).unwrap();
         let passes = if log.roomy { 1 } else { 2 };
         let replayed = passes * said.replayed as u64 * log.events() as u64;
-        let each = [0, 1, 2].map(|which| instructions(which, at, list.len()) as f64 / replayed as f64);
+        let each = [0, 1, 2].map(|which| {
+            let words = ["one", &which.to_string(), &at.to_string(), &list.len().to_string()];
+            instructions("bench_find", &words) as f64 / replayed as f64
+        });
         println!(
             "{:<20} {:>3} {:>6} {:>6} {:>9} {:>15} {:>8.1} {:>8.1} {:>9.1} {:>10.2} {:>12.2}",
             log.name,
@@ -253,17 +261,185 @@ fn print_instructions() {
     }
 }
 
+/// Constraints to be watched, and the activities of a run.
+struct List {
+    name: &'static str,
+    n: u32,
+    constraints: Vec<u16>,
+    activities: Vec<u32>,
+}
+
+impl List {
+    fn count(&self) -> usize {
+        self.constraints.len() / 3
+    }
+}
+
+/// So many of these constraints, in any order, beginning again where there are fewer.
+fn list_of(name: &'static str, n: u32, among: impl Fn(&Constraint) -> bool, count: usize) -> List {
+    let mut rng = Rng::new(n as u64 + count as u64);
+    let mut all: Vec<Constraint> = constraints(n).into_iter().filter(among).collect();
+    rng.shuffle(&mut all);
+    let chosen: Vec<Constraint> = all.into_iter().cycle().take(count).collect();
+    // In a rough order, as in the logs.
+    let activities = (0..4096).map(|k| ((k / 8 + rng.below(3)) % n as usize) as u32).collect();
+    List { name, n, constraints: numbers(&chosen), activities }
+}
+
+fn lists() -> Vec<List> {
+    let any = |_: &Constraint| true;
+    vec![
+        list_of("all templates", 5, any, MOST_WATCHED),
+        list_of("all templates", 12, any, MOST_WATCHED),
+        list_of("all templates", 32, any, MOST_WATCHED),
+        list_of("Existence(1) alone", 32, |c| c.template == 1, MOST_WATCHED),
+        list_of("Response alone", 32, |c| c.template == 14, MOST_WATCHED),
+        list_of("Chain Succession alone", 32, |c| c.template == 22, MOST_WATCHED),
+        list_of("sixteen", 5, any, 16),
+        list_of("one", 5, any, 1),
+    ]
+}
+
+/// The archive's watcher, the plain one with memory of its own, and the plain one with what the archive's is lent.
+struct Watchers<'a> {
+    list: &'a List,
+    table: &'a Table,
+    plain: Watcher<'a>,
+    watcher: [[u32; 3]; 2],
+    states: [Bytes; 2],
+    told: [Bytes; 3],
+}
+
+impl<'a> Watchers<'a> {
+    fn start(table: &'a Table, list: &'a List) -> Watchers<'a> {
+        let (mut watcher, mut states, mut told) = ([0; 3], [0; MOST_WATCHED], [[0; MOST_WATCHED]; 2]);
+        let said = watch_start(list.n, &mut watcher, &list.constraints, &mut states, &mut told[0]);
+        let plain = Watcher::start(table, list.n, &list.constraints, &mut told[1]).expect("the list is right");
+        assert!(said == 0 && told[0] == told[1]);
+        Watchers { list, table, plain, watcher: [watcher; 2], states: [states, [0; MOST_WATCHED]], told: [told[0]; 3] }
+    }
+
+    /// All three tell the same.
+    fn agree(&self) -> bool {
+        self.told[0] == self.told[1] && self.told[1] == self.told[2]
+    }
+}
+
+/// These steps by the watcher of this number.
+#[no_mangle]
+#[inline(never)]
+fn bench_steps(which: usize, watchers: &mut Watchers, activities: &[u32]) {
+    let Watchers { list, table, plain, watcher, states, told } = black_box(watchers);
+    let steps = activities.iter();
+    let taken = match which {
+        0 => steps.filter(|&&x| watch_step(&mut watcher[0], &list.constraints, &mut states[0], &mut told[0], x) == 0).count(),
+        1 => steps.filter(|&&x| plain.step(x, &mut told[1]).is_ok()).count(),
+        _ => steps.filter(|&&x| step_lent(table, &mut watcher[1], &list.constraints, &mut states[1], &mut told[2], x).is_ok()).count(),
+    };
+    assert_eq!(taken, activities.len());
+}
+
+/// The best time of a step by each watcher over several rounds, each taking its turn in every round. A turn is a run of 4096 steps.
+fn step_times(table: &Table, list: &List) -> [f64; 3] {
+    let mut watchers = Watchers::start(table, list);
+    for x in &list.activities {
+        (0..3).for_each(|which| bench_steps(which, &mut watchers, std::slice::from_ref(x)));
+        assert!(watchers.agree(), "{}", list.name);
+    }
+    let mut best = [f64::MAX; 3];
+    let start = now();
+    let mut rounds = 0;
+    while rounds < 20 || (rounds < 300 && now() - start < 0.5) {
+        let mut watchers = Watchers::start(table, list);
+        for (which, best) in best.iter_mut().enumerate() {
+            let before = now();
+            bench_steps(which, &mut watchers, &list.activities);
+            *best = best.min((now() - before) / list.activities.len() as f64);
+        }
+        assert!(watchers.agree(), "{}", list.name);
+        rounds += 1;
+    }
+    best
+}
+
+fn print_head(what: &str) {
+    println!("{what} of a watcher's step for each constraint, with all else that the step does.");
+    println!(
+        "{:<22} {:>3} {:>11} {:>10} {:>10} {:>10} {:>10} {:>10}",
+        "list", "N", "constraints", "archive", "plain", "lent", "to plain", "to lent"
+    );
+}
+
+/// A row of the watcher's tables, with what a step takes for each constraint.
+fn print_row(list: &List, each: [f64; 3]) {
+    println!(
+        "{:<22} {:>3} {:>11} {:>10.2} {:>10.2} {:>10.2} {:>10.2} {:>10.2}",
+        list.name,
+        list.n,
+        list.count(),
+        each[0],
+        each[1],
+        each[2],
+        each[0] / each[1],
+        each[0] / each[2]
+    );
+}
+
+fn print_step_times() {
+    let lists = lists();
+    let tables: Vec<Table> = lists.iter().map(|list| Table::new(list.n)).collect();
+    let mut best = vec![[f64::MAX; 3]; lists.len()];
+    for _ in 0..GOES {
+        for ((list, table), least) in lists.iter().zip(&tables).zip(&mut best) {
+            let t = step_times(table, list);
+            *least = std::array::from_fn(|which| least[which].min(t[which]));
+        }
+    }
+    print_head("Nanoseconds");
+    let mut worst = [0f64; 2];
+    for (list, t) in lists.iter().zip(best) {
+        print_row(list, t.map(|t| t * 1e9 / list.count() as f64));
+        worst = [worst[0].max(t[0] / t[1]), worst[1].max(t[0] / t[2])];
+    }
+    println!("worst: {:.2} to the plain watcher, {:.2} to the one with what is lent", worst[0], worst[1]);
+}
+
+fn print_step_instructions() {
+    print_head("Instructions");
+    for (at, list) in lists().iter().enumerate() {
+        let all = (list.count() * list.activities.len()) as f64;
+        print_row(list, [0, 1, 2].map(|which| instructions("bench_steps", &["run", &which.to_string(), &at.to_string()]) as f64 / all));
+    }
+}
+
 fn main() {
     let words: Vec<String> = std::env::args().skip(1).collect();
     let number = |k: usize| words[k].parse::<usize>().unwrap();
-    match words.first().map(String::as_str) {
-        None => print_times(),
-        Some("instructions") => print_instructions(),
-        Some("one") => {
+    let words: Vec<&str> = words.iter().map(String::as_str).collect();
+    match words[..] {
+        [] => {
+            print_times();
+            println!();
+            print_step_times();
+        }
+        ["watcher"] => print_step_times(),
+        ["instructions"] => {
+            print_instructions();
+            println!();
+            print_step_instructions();
+        }
+        ["watcher", "instructions"] => print_step_instructions(),
+        // What runs under valgrind.
+        ["one", ..] => {
             let (which, at) = (number(1), number(2));
             let said = bench_find(which, &Automaton::new(), &counted_logs()[at], &mut vec![0; number(3)]);
             println!("{} {said:?}", FINDERS[which]);
         }
-        Some(word) => panic!("{word}: give nothing, or the word instructions"),
+        ["run", ..] => {
+            let list = &lists()[number(2)];
+            let table = Table::new(list.n);
+            bench_steps(number(1), &mut Watchers::start(&table, list), &list.activities);
+        }
+        _ => panic!("{words:?}: give nothing, or the words watcher, instructions or both"),
     }
 }

@@ -7,6 +7,7 @@ pub mod findrules;
 pub mod ledger;
 pub mod memory;
 pub mod templates;
+pub mod watcher;
 
 #[cfg(test)]
 mod examples;

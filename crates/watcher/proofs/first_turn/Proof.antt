@@ -13,9 +13,6 @@ mul-state-2 c = search needs
 shared-slice-read-state : tie.Need-shared-slice-read-state
 shared-slice-read-state c = search needs
 
-mul-state-3 : tie.Need-mul-state-3
-mul-state-3 c = search needs
-
 cast-state : tie.Need-cast-state
 cast-state c = search needs
 
@@ -44,7 +41,6 @@ first-turn-spec =
     mul-state
     mul-state-2
     shared-slice-read-state
-    mul-state-3
     cast-state
     slice-write-states
     outlook-of-requires

@@ -9,16 +9,16 @@ use Rattle.watcher.proofs.first_turns.Statement.{statement}
 use Rattle.watcher.proofs.first_turns.Tie as tie
 
 abbrev Inv-loop : tie.InvT-loop
-Inv-loop numbers states₀ told₀ outlooks count at₀ states told at =
+Inv-loop numbers states₀ told₀ table count at₀ states told at =
     (at ≤ count) × (length states ≡ length states₀) × (length told ≡ length told₀)
-    × (each-of (first-turn outlooks numbers) count 0 (record { states = states₀; told = told₀ })
-    ≡ each-of (first-turn outlooks numbers) (count - at) at (record { states = states; told = told }))
+    × (each-of (first-turn table numbers) count 0 (record { states = states₀; told = told₀ })
+    ≡ each-of (first-turn table numbers) (count - at) at (record { states = states; told = told }))
 
 abbrev μ-loop : tie.MeasureT-loop
-μ-loop numbers states₀ told₀ outlooks count at₀ states told at = count - at
+μ-loop numbers states₀ told₀ table count at₀ states told at = count - at
 
-outlooks-for-requires : tie.Need-outlooks-for-requires Inv-loop μ-loop
-outlooks-for-requires c κs = search needs
+table-for-requires : tie.Need-table-for-requires Inv-loop μ-loop
+table-for-requires c κs = search needs
 
 cast-count : tie.Need-cast-count Inv-loop μ-loop
 cast-count c = search needs
@@ -53,7 +53,7 @@ same-length-2 c = search needs
 
 returns : tie.Need-returns Inv-loop μ-loop
 returns c =
-    rw (← (c .before .before .before .outlooks-for .ensures))
+    rw (← (c .before .before .before .table-for .ensures))
     (sym (c .before .loop .inv .3 ∙ turns-done _ _ _ _ (search needs)))
 
 pub first-turns-spec : {M : Type 1} → statement M
@@ -62,7 +62,7 @@ first-turns-spec =
     (tie.spec
     Inv-loop
     μ-loop
-    outlooks-for-requires
+    table-for-requires
     cast-count
     loop-holds
     first-turn-requires

@@ -6,15 +6,18 @@ use Rattle.watcher.specs.Table.{place}
 use Rattle.watcher.proofs.place_of.Statement.{statement}
 use Rattle.watcher.proofs.place_of.Tie as tie
 
-block-of-requires : tie.Need-block-of-requires
-block-of-requires c κs = search needs
+mul-result : tie.Need-mul-result
+mul-result c = search needs
+
+column-of-requires : tie.Need-column-of-requires
+column-of-requires c κs = search needs
 
 add-result : tie.Need-add-result
 add-result c = search needs
 
 returns : tie.Need-returns
 unfolding place
-returns c = (rw (c .block-of .ensures) refl, omega (arith, c .block-of .ensures))
+returns c = (rw (c .column-of .ensures) refl, omega (arith, c .column-of .ensures))
 
 pub place-of-spec : {M : Type 1} → statement M
-place-of-spec = tie.close (tie.spec block-of-requires add-result returns)
+place-of-spec = tie.close (tie.spec mul-result column-of-requires add-result returns)

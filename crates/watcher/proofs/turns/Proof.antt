@@ -9,19 +9,16 @@ use Rattle.watcher.proofs.turns.Statement.{statement}
 use Rattle.watcher.proofs.turns.Tie as tie
 
 abbrev Inv-loop : tie.InvT-loop
-Inv-loop numbers states₀ told₀ activity next outlooks count at₀ states told at =
+Inv-loop numbers states₀ told₀ activity table count at₀ states told at =
     (at ≤ count) × (length states ≡ length states₀) × (length told ≡ length told₀)
-    × (each-of (turn-by next outlooks numbers activity) count 0 (record { states = states₀; told = told₀ })
-    ≡ each-of (turn-by next outlooks numbers activity) (count - at) at (record { states = states; told = told }))
+    × (each-of (turn-by table numbers activity) count 0 (record { states = states₀; told = told₀ })
+    ≡ each-of (turn-by table numbers activity) (count - at) at (record { states = states; told = told }))
 
 abbrev μ-loop : tie.MeasureT-loop
-μ-loop numbers states₀ told₀ activity next outlooks count at₀ states told at = count - at
+μ-loop numbers states₀ told₀ activity table count at₀ states told at = count - at
 
-next-table-requires : tie.Need-next-table-requires Inv-loop μ-loop
-next-table-requires c κs = search needs
-
-outlooks-for-requires : tie.Need-outlooks-for-requires Inv-loop μ-loop
-outlooks-for-requires c κs = search needs
+table-for-requires : tie.Need-table-for-requires Inv-loop μ-loop
+table-for-requires c κs = search needs
 
 cast-count : tie.Need-cast-count Inv-loop μ-loop
 cast-count c = search needs
@@ -41,7 +38,7 @@ loop-less c = search needs
 loop-again : tie.Need-loop-again Inv-loop μ-loop
 loop-again c =
     let called = c .before .before .before .before in
-    let at-loop = called .before .before .before .before .before .before in (
+    let at-loop = called .before .before .before .before .before in (
       search needs,
       search needs,
       search needs,
@@ -56,7 +53,7 @@ same-length-2 c = search needs
 
 returns : tie.Need-returns Inv-loop μ-loop
 returns c =
-    rw (← (c .before .before .before .before .next-table .ensures), ← (c .before .before .before .outlooks-for .ensures))
+    rw (← (c .before .before .before .table-for .ensures))
     (sym (c .before .loop .inv .3 ∙ turns-done _ _ _ _ (search needs)))
 
 pub turns-spec : {M : Type 1} → statement M
@@ -65,8 +62,7 @@ turns-spec =
     (tie.spec
     Inv-loop
     μ-loop
-    next-table-requires
-    outlooks-for-requires
+    table-for-requires
     cast-count
     loop-holds
     turn-requires
