@@ -2,19 +2,18 @@
 -- Assumes nothing.
 use Prim.Native.Nat.{ℕ}
 use native.Mathlib.Omega.{arith}
-use mathlib.Core.Path.{_≡_, refl, sym, ap, subst, _∙_}
+use mathlib.Core.Path.{_≡_, refl, sym, subst, _∙_}
 use mathlib.Core.Bool.{true}
 use mathlib.Core.List.{List, [], _∷_, _++_, map}
 use lib.ListN.{length, drop, length-map}
 use lib.Seq.{drop-at}
 use Rattle.base.specs.Lists.{all}
-use Rattle.base.specs.Checks.{refused, reply}
 use Rattle.base.proofs.Bools.{and-left, and-right}
 use Rattle.base.proofs.Checks.{refused-old, given-new}
 use Rattle.declare.specs.declared.constraints.Constraint.{Constraint}
 use Rattle.eventlog.specs.Store.{all-below}
 use Rattle.watcher.specs.Table.{state-after, outlook}
-use Rattle.watcher.specs.Calls.{given, proper, Lent, after, start-checks, step-checks, taking, step-said, Memory, Made, Steps}
+use Rattle.watcher.specs.Calls.{given, proper, Lent, after, start-checks, step-checks, taking, Memory, Made, Steps}
 use Rattle.watcher.specs.Watching.{Tells, Seen, Watching, Untouched, Right, Each-right, Started, memory-of, Request3}
 use Rattle.watcher.proofs.Outlooks.{exclude, right}
 use Rattle.watcher.proofs.Making.{proper-over, all-proper}

@@ -1,11 +1,10 @@
 -- What the two loops over the constraints come to: a new state for each, with what it tells, and then what was there.
 -- Assumes nothing.
-use Prim.Native.Nat.{ℕ, zero, suc, _+_, _*_, _-_, _≤_, _<_}
+use Prim.Native.Nat.{ℕ, zero, suc, _+_, _*_, _≤_, _<_}
 use native.Mathlib.Omega.{arith}
 use native.Mathlib.Nat.{zero-add}
-use mathlib.Core.Path.{_≡_, refl, sym, ap, ap₂, _∙_}
-use mathlib.Core.Bool.{Bool, true}
-use mathlib.Core.List.{List, [], _∷_, _++_, map}
+use mathlib.Core.Path.{_≡_, sym, ap, ap₂, _∙_}
+use mathlib.Core.List.{List, _++_, map}
 use lib.ListN.{length, getD, set, take, drop, length-map}
 use lib.Seq.{drop-cons, getD-at, set-at, take-suc, take-all, length-take-le, append-snoc}
 use Rattle.base.specs.Lists.{range}

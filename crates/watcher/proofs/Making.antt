@@ -3,7 +3,7 @@
 use Prim.Native.Nat.{ℕ, zero, suc, _+_, _-_, _*_, _/_, _%_, _≤_, _<_}
 use native.Mathlib.Omega.{arith}
 use mathlib.Core.Path.{_≡_, refl, sym, ap, ap₂, _∙_}
-use mathlib.Core.Bool.{Bool, true, false, not, _&&_}
+use mathlib.Core.Bool.{true, _&&_}
 use mathlib.Core.List.{List, [], _∷_, _++_, map}
 use borrow.Author.Tests.{eqb-true, leb-true, ltb-true, ltb-false, not-false}
 use lib.Dec.{eqb, leb, ltb}
@@ -16,7 +16,6 @@ use Rattle.base.proofs.Lists.{all-range, range-at, range-length}
 use Rattle.base.proofs.Checks.{None-fail, none-fail}
 use Rattle.declare.specs.declared.constraints.Constraint.{Constraint}
 use Rattle.declare.specs.Meaning.{between}
-use Rattle.declare.specs.Automata.{follow}
 use Rattle.declare.specs.Constraints.{pairs, Over}
 use Rattle.declare.proofs.Shifting.{follow-small}
 use Rattle.eventlog.specs.Store.{declarable}

@@ -1,21 +1,20 @@
 -- What the automata's states tell is the state of the definition: one test over the table, and one lemma.
 -- Assumes nothing.
-use Prim.Native.Nat.{ℕ, zero, suc, _+_, _*_, _≤_, _<_}
+use Prim.Native.Nat.{ℕ, zero, suc, _≤_, _<_}
 use native.Mathlib.Omega.{arith}
 use mathlib.Core.Path.{_≡_, refl, sym, ap, subst, _∙_}
 use mathlib.Core.Bool.{Bool, true, false, not, _&&_, _||_, Bool·beq, true≢false, false≢true}
 use mathlib.Core.Logic.{_⊎_, inl, inr}
-use mathlib.Core.List.{List, [], _∷_, _++_, map}
-use borrow.Author.Tests.{eqb-true, eqb-false, leb-true, leb-false, ltb-true, lt-ltb, not-true, eq-eqb, ne-eqb}
+use mathlib.Core.List.{List, [], _∷_, _++_}
+use borrow.Author.Tests.{eqb-true, eqb-false, leb-true, ltb-true, lt-ltb, not-true, eq-eqb, ne-eqb}
 use lib.Dec.{eqb, leb, ltb}
-use lib.ListN.{getD}
 use Rattle.base.specs.Logic.{_implies_, if_then_else_}
 use Rattle.base.specs.Lists.{all, range}
 use Rattle.base.proofs.Bools.{equal-same, and-left, and-right, and-both, implied, fails-too, either, clash}
 use Rattle.base.proofs.Lists.{all-range, all-append}
 use Rattle.declare.specs.declared.constraints.Constraint.{Constraint}
-use Rattle.declare.specs.Automata.{next-of, verdict-of, follow, letter, stands}
-use Rattle.declare.specs.Constraints.{pairs, Over}
+use Rattle.declare.specs.Automata.{next-of, verdict-of, follow, letter}
+use Rattle.declare.specs.Constraints.{Over}
 use Rattle.declare.proofs.Agreement.{letter-small}
 use Rattle.declare.proofs.Shifting.{next-small, follow-small}
 use Rattle.declare.proofs.Following.{follow-holds-constraint}

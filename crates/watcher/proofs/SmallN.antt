@@ -1,6 +1,6 @@
 -- Where the number of declared activities matters: only where there is one, for template 8 (End) after a step.
 -- Assumes nothing.
-use Prim.Native.Nat.{ℕ, suc, _+_, _≤_, _<_}
+use Prim.Native.Nat.{ℕ, _≤_, _<_}
 use native.Mathlib.Omega.{arith}
 use mathlib.Core.Path.{_≡_, refl, sym, ap, subst, _∙_}
 use mathlib.Core.Bool.{Bool, true, false, _&&_, _||_}
@@ -10,8 +10,7 @@ use lib.Dec.{eqb, ltb}
 use Rattle.base.specs.Lists.{all, range}
 use Rattle.base.proofs.Bools.{and-left, and-right, and-both, either}
 use Rattle.declare.specs.declared.constraints.Constraint.{Constraint}
-use Rattle.declare.specs.Automata.{next-of, verdict-of}
-use Rattle.declare.specs.Constraints.{constraint, pairs, Over}
+use Rattle.declare.specs.Constraints.{constraint, Over}
 use Rattle.declare.proofs.Shifting.{at-every-state, follow-small}
 use Rattle.eventlog.specs.Store.{all-below}
 use Rattle.watcher.specs.Outlook.{State}

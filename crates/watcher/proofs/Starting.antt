@@ -2,11 +2,11 @@
 -- Assumes nothing.
 use Prim.Native.Nat.{ℕ, _*_, _/_, _≤_}
 use native.Mathlib.Omega.{arith}
-use mathlib.Core.Path.{_≡_, refl, sym, ap, _∙_}
+use mathlib.Core.Path.{_≡_, sym, ap, _∙_}
 use mathlib.Core.List.{List, [], _∷_}
 use lib.Dec.{eqb}
 use lib.ListN.{length}
-use Rattle.base.specs.Checks.{gives, refused, reply}
+use Rattle.base.specs.Checks.{gives, reply}
 use Rattle.base.proofs.Checks.{passed-giving, refused-old, given-new}
 use Rattle.eventlog.specs.declared.Refusal.{Refusal}
 use Rattle.watcher.specs.declared.Watcher.{Watcher}

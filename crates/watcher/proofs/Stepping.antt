@@ -1,22 +1,22 @@
 -- What step answers decides what it leaves; of a memory that a start and steps made, the next one.
 -- Assumes nothing.
-use Prim.Native.Nat.{ℕ, _+_, _*_, _/_, _≤_, _<_}
+use Prim.Native.Nat.{ℕ, _+_, _*_, _≤_, _<_}
 use native.Mathlib.Omega.{arith}
 use mathlib.Core.Path.{_≡_, refl, sym, ap, ap₂, subst, _∙_}
-use mathlib.Core.Bool.{Bool, true, false, not, _&&_, _||_}
+use mathlib.Core.Bool.{true, _&&_}
 use mathlib.Core.List.{List, [], _∷_, _++_}
-use borrow.Author.Tests.{eqb-true, leb-true, leb-false, ltb-true, not-false, le-leb, eq-eqb, lt-ltb}
+use borrow.Author.Tests.{eqb-true, leb-true, leb-false, ltb-true, not-false, le-leb, eq-eqb}
 use lib.Dec.{eqb, leb, ltb}
 use lib.ListN.{length, length-append}
-use Rattle.base.specs.Checks.{Check, gives, refused, reply, when-passed}
+use Rattle.base.specs.Checks.{gives, refused, reply}
 use Rattle.base.proofs.Bools.{and-left, and-right, and-both}
 use Rattle.base.proofs.Lists.{all-append}
-use Rattle.base.proofs.Checks.{None-fail, none-fail, refused-old, given-new, Each, refused-each}
+use Rattle.base.proofs.Checks.{none-fail, refused-old, given-new, Each, refused-each}
 use Rattle.eventlog.specs.declared.Refusal.{Refusal}
-use Rattle.eventlog.specs.Store.{declarable, most-activities, longest-trace, all-below}
+use Rattle.eventlog.specs.Store.{most-activities, longest-trace}
 use Rattle.watcher.specs.declared.Watcher.{Watcher}
 use Rattle.watcher.specs.declared.StepAnswer.{StepAnswer}
-use Rattle.watcher.specs.Calls.{most-constraints, Lent, after, watcher-after, start-checks, step-checks, taking, step-said, Memory, Made, ends-so, Steps}
+use Rattle.watcher.specs.Calls.{most-constraints, Lent, watcher-after, step-checks, step-said, Memory, Made, ends-so, Steps}
 use Rattle.watcher.specs.Table.{table}
 use Rattle.watcher.specs.Loops.{each-of, turn-by, usable, checks-of-step}
 use Rattle.watcher.proofs.Making.{not-many, none-cut, few-activities, stepping}

@@ -1,17 +1,15 @@
 -- The loops over the constraints, turn by turn, and what they come to.
 -- Assumes nothing.
-use Prim.Native.Nat.{ℕ, zero, suc, _+_, _*_, _-_, _%_, _/_, _≤_, _<_}
+use Prim.Native.Nat.{ℕ, suc, _+_, _-_, _/_, _≤_, _<_}
 use native.Mathlib.Omega.{arith}
 use native.Mathlib.Numerals.{add-one}
-use mathlib.Core.Path.{_≡_, refl, sym, ap, ap₂, _∙_}
+use mathlib.Core.Path.{_≡_, refl, sym, ap, _∙_}
 use mathlib.Core.Bool.{Bool, true, _&&_}
-use mathlib.Core.List.{List, [], _∷_, _++_, map}
-use lib.ListN.{length, getD, set, take, drop}
-use lib.Seq.{paste, paste-zero, paste-suc, length-paste}
+use mathlib.Core.List.{List, [], _∷_, map}
+use lib.ListN.{length}
 use Rattle.base.specs.Lists.{all, range}
-use Rattle.base.proofs.Lists.{range-at, range-length}
 use Rattle.watcher.specs.Calls.{constraint-at, given, proper, Lent}
-use Rattle.watcher.specs.Loops.{each-of, put}
+use Rattle.watcher.specs.Loops.{each-of}
 
 -- ## One turn of a loop
 

@@ -1,11 +1,11 @@
--- The watcher's two loops over the constraints: what each turn writes. Nothing here has to be believed: proofs/Turning.antt shows that they
+-- The watcher's two loops over the constraints: what each turn writes. Nothing here has to be believed: proofs/Making.antt shows that they
 -- come to `Calls.after`.
 -- Assumes nothing.
-use Prim.Native.Nat.{ℕ, zero, suc, _+_, _*_, _%_}
+use Prim.Native.Nat.{ℕ, zero, suc, _+_, _*_, _%_, _≤_}
 use mathlib.Core.Bool.{Bool, not, _&&_}
 use mathlib.Core.List.{List, _∷_}
 use lib.Dec.{eqb, leb}
-use lib.ListN.{getD, set}
+use lib.ListN.{length, getD, set}
 use Rattle.base.specs.Checks.{Check, _refuses_with_}
 use Rattle.eventlog.specs.Store.{most-activities, longest-trace}
 use Rattle.watcher.specs.declared.Watcher.{Watcher}
@@ -16,6 +16,11 @@ use Rattle.watcher.specs.Table.{place}
 unfoldable pub each-of : (ℕ → Lent → Lent) → ℕ → ℕ → Lent → Lent
 each-of turn zero at l = l
 each-of turn (suc more) at l = each-of turn more (suc at) (turn at l)
+
+-- each constraint of the record has its numbers, and a place for its state and for what is told of it
+abbrev pub HasPlace : Watcher → List ℕ → Lent → Type 0
+HasPlace w numbers l =
+    (3 * w .constraints ≤ length numbers) × (w .constraints ≤ length (l .states)) × (w .constraints ≤ length (l .told))
 
 -- a constraint's new state, and what it tells
 abbrev pub put : List ℕ → ℕ → ℕ → Lent → Lent

@@ -5,7 +5,7 @@ mod table;
 use eventlog::Refusal;
 ghost use mathlib.Core.Path.{_≡_};
 ghost use mathlib.Core.List.{[], _∷_};
-ghost use Prim.Native.Nat.{_+_, _-_, _*_, _/_, _<_, _≤_};
+ghost use Prim.Native.Nat.{_+_, _-_, _*_, _/_, _<_};
 ghost use lib.Dec.{eqb};
 ghost use lib.ListN.{length, getD};
 ghost use Rattle.base.specs.Lists.{all};
@@ -14,7 +14,7 @@ ghost use Rattle.declare.specs.Automata.{letter};
 ghost use Rattle.declare.specs.Constraints.{constraint, pairs};
 ghost use Rattle.watcher.specs.Calls.{lent, beside, given, proper, well-formed, start-checks, start-said, Starts, step-said, Steps};
 ghost use Rattle.watcher.specs.Table.{table as table-of, place};
-ghost use Rattle.watcher.specs.Loops.{each-of, first-turn as turned-first, turn-by, usable, checks-of-step};
+ghost use Rattle.watcher.specs.Loops.{each-of, HasPlace, first-turn as turned-first, turn-by, usable, checks-of-step};
 
 // The record: how many activities are declared, constraints watched, and activities taken so far.
 pub struct Watcher {
@@ -49,7 +49,7 @@ pub const NO_CONSTRAINT: u8 = 13;
 pub const TOO_MANY: u8 = 14;
 
 // The table, with so many declared activities. Where there is one alone, every event is that one, so that template 8 (End), once it holds,
-// holds with every continuation.
+// holds with every continuation: 163 is where its state 1 tells, 4 * (8 + 32) + 3.
 fn table_for(activities: u32) -> [u8; 1024]
     ensures { λ r. ⌜ r ≡ table-of (eqb activities 1) ⌝ }
 {
@@ -103,7 +103,7 @@ fn turn(
 
 // Every constraint, one event on.
 fn turns(watcher: Watcher, numbers: &[u16], states: &mut [u8], told: &mut [u8], activity: u16)
-    requires { ⌜ (3 * watcher .constraints ≤ length (now numbers)) × (watcher .constraints ≤ length (now states)) × (watcher .constraints ≤ length (now told)) ⌝ }
+    requires { ⌜ HasPlace watcher (now numbers) (lent states told) ⌝ }
     ensures { λ _. ⌜ lent (states .exit) (told .exit)
         ≡ each-of (turn-by (table-of (eqb (watcher .activities) 1)) (now (numbers .entry)) activity) (watcher .constraints) 0
         (lent (states .entry) (told .entry)) ⌝ }
@@ -130,15 +130,15 @@ fn first_turn(table: &[u8; 1024], numbers: &[u16], at: usize, states: &mut [u8],
 
 // Every constraint, before the first event.
 fn first_turns(watcher: Watcher, numbers: &[u16], states: &mut [u8], told: &mut [u8])
-    requires { ⌜ (3 * watcher .constraints ≤ length (now numbers)) × (watcher .constraints ≤ length (now states)) × (watcher .constraints ≤ length (now told)) ⌝ }
+    requires { ⌜ HasPlace watcher (now numbers) (lent states told) ⌝ }
     ensures { λ _. ⌜ lent (states .exit) (told .exit)
         ≡ each-of (turned-first (table-of (eqb (watcher .activities) 1)) (now (numbers .entry))) (watcher .constraints) 0
         (lent (states .entry) (told .entry)) ⌝ }
 {
     let table = table_for(watcher.activities);
-    let count = watcher.constraints as usize;
+    let constraints = watcher.constraints as usize;
     let mut at = 0;
-    while at < count {
+    while at < constraints {
         first_turn(&table, numbers, at, states, told);
         at += 1;
     }

@@ -1,4 +1,5 @@
--- `watcher::all_proper` meets its contract. Assumes nothing.
+-- `watcher::all_proper` meets its contract. The loop's invariant: whether all are proper hangs on those from `at` on. The measure is how many
+-- constraints are left. Assumes nothing.
 use Prim.Native.Nat.{_≤_, _-_}
 use mathlib.Core.Path.{_≡_, refl, sym, _∙_}
 use borrow.Author.Needs.{needs}

@@ -1,4 +1,4 @@
--- `watcher::first_turn` meets its contract. Assumes nothing.
+-- `watcher::first_turn` meets its contract: what is written is the start's state, and what it tells. Assumes nothing.
 use mathlib.Core.Path.{refl}
 use borrow.Author.Needs.{needs}
 use Rattle.watcher.proofs.first_turn.Statement.{statement}

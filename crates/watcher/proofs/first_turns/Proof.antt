@@ -1,4 +1,5 @@
--- `watcher::first_turns` meets its contract. Assumes nothing.
+-- `watcher::first_turns` meets its contract. The loop's invariant: all turns come to those from `at` on, of what is there now. The measure is
+-- how many constraints are left. Assumes nothing.
 use Prim.Native.Nat.{_≤_, _-_}
 use mathlib.Core.Path.{_≡_, refl, sym, ap, _∙_}
 use borrow.Author.Needs.{needs}
@@ -9,19 +10,19 @@ use Rattle.watcher.proofs.first_turns.Statement.{statement}
 use Rattle.watcher.proofs.first_turns.Tie as tie
 
 abbrev Inv-loop : tie.InvT-loop
-Inv-loop numbers states₀ told₀ table count at₀ states told at =
-    (at ≤ count) × (length states ≡ length states₀) × (length told ≡ length told₀)
-    × (each-of (first-turn table numbers) count 0 (record { states = states₀; told = told₀ })
-    ≡ each-of (first-turn table numbers) (count - at) at (record { states = states; told = told }))
+Inv-loop numbers states₀ told₀ table constraints at₀ states told at =
+    (at ≤ constraints) × (length states ≡ length states₀) × (length told ≡ length told₀)
+    × (each-of (first-turn table numbers) constraints 0 (record { states = states₀; told = told₀ })
+    ≡ each-of (first-turn table numbers) (constraints - at) at (record { states = states; told = told }))
 
 abbrev μ-loop : tie.MeasureT-loop
-μ-loop numbers states₀ told₀ table count at₀ states told at = count - at
+μ-loop numbers states₀ told₀ table constraints at₀ states told at = constraints - at
 
 table-for-requires : tie.Need-table-for-requires Inv-loop μ-loop
 table-for-requires c κs = search needs
 
-cast-count : tie.Need-cast-count Inv-loop μ-loop
-cast-count c = search needs
+cast-constraints : tie.Need-cast-constraints Inv-loop μ-loop
+cast-constraints c = search needs
 
 loop-holds : tie.Need-loop-holds Inv-loop μ-loop
 loop-holds c = (search needs, refl, refl, turns-due _ _ _)
@@ -63,7 +64,7 @@ first-turns-spec =
     Inv-loop
     μ-loop
     table-for-requires
-    cast-count
+    cast-constraints
     loop-holds
     first-turn-requires
     add-at

@@ -1,4 +1,4 @@
--- `watcher::is_proper` meets its contract. Assumes nothing.
+-- `watcher::is_proper` meets its contract: the tests that led to each answer decide the definition's. Assumes nothing.
 use mathlib.Core.Path.{refl}
 use mathlib.Core.Logic.{⊎-elim}
 use borrow.Author.Needs.{needs}

@@ -1,4 +1,4 @@
--- `watcher::is_well_formed` meets its contract. Assumes nothing.
+-- `watcher::is_well_formed` meets its contract: the two tests are the definition's. Assumes nothing.
 use mathlib.Core.Path.{refl}
 use borrow.Author.Needs.{needs}
 use borrow.Author.Tests.{eq-eqb, ne-eqb}

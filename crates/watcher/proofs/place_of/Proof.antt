@@ -1,4 +1,4 @@
--- `watcher::place_of` meets its contract. Assumes nothing.
+-- `watcher::place_of` meets its contract: a byte and a column are a place of the table. Assumes nothing.
 use native.Mathlib.Omega.{arith}
 use mathlib.Core.Path.{refl}
 use borrow.Author.Needs.{needs}

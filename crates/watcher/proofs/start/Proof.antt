@@ -1,4 +1,4 @@
--- `watcher::start` meets its contract. Assumes nothing.
+-- `watcher::start` meets its contract: each arm from what the answer was. Assumes nothing.
 use native.Mathlib.Omega.{arith}
 use mathlib.Core.Path.{refl, sym, ap, _∙_}
 use borrow.Author.Needs.{needs}

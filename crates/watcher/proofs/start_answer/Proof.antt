@@ -1,4 +1,4 @@
--- `watcher::start_answer` meets its contract. Assumes nothing.
+-- `watcher::start_answer` meets its contract: each return from the tests that led there. Assumes nothing.
 use Prim.Native.Nat.{_/_}
 use mathlib.Core.Path.{_≡_, sym, _∙_}
 use mathlib.Core.Bool.{true}

@@ -1,4 +1,4 @@
--- `watcher::step` meets its contract. Assumes nothing.
+-- `watcher::step` meets its contract: each arm from what the answer was. Assumes nothing.
 use native.Mathlib.Omega.{arith}
 use mathlib.Core.Path.{sym, ap, _∙_}
 use borrow.Author.Needs.{needs}

@@ -1,4 +1,5 @@
--- `watcher::step_answer` meets its contract. Assumes nothing.
+-- `watcher::step_answer` meets its contract: each return from the tests that led there. Assumes nothing.
+use native.Mathlib.Omega.{arith}
 use mathlib.Core.Path.{_≡_, sym, _∙_}
 use mathlib.Core.Bool.{true}
 use borrow.Author.Needs.{needs}
@@ -25,7 +26,10 @@ not-taken-requires-2 : tie.Need-not-taken-requires-2
 not-taken-requires-2 c κs = search needs
 
 returns-2 : tie.Need-returns-2
-returns-2 c = simp (c .not-taken2 .ensures, usable-yes (c .before .before .before), le-ltb _ _ (c .before .if2 .taken))
+returns-2 c =
+    let args = c .before .before .before .before .before .args in
+    let high = c .before .if2 .taken in
+    simp (c .not-taken2 .ensures, usable-yes (c .before .before .before), le-ltb (args .activity) (args .watcher .activities) (omega arith))
 
 not-taken-requires-3 : tie.Need-not-taken-requires-3
 not-taken-requires-3 c κs = search needs
@@ -33,12 +37,27 @@ not-taken-requires-3 c κs = search needs
 returns-3 : tie.Need-returns-3
 returns-3 c =
     let declared = c .before .before .before in
-    simp (c .not-taken3 .ensures, usable-yes (declared .before .before), lt-ltb _ _ (declared .if2 .left), le-leb _ _ (c .before .if3 .taken))
+    let args = declared .before .before .before .before .args in
+    let low = declared .if2 .left in
+    let many = c .before .if3 .taken in
+    simp (
+      c .not-taken3 .ensures,
+      usable-yes (declared .before .before),
+      lt-ltb (args .activity) (args .watcher .activities) (omega arith),
+      le-leb 4096 (args .watcher .taken) (omega arith),
+    )
 
 returns-4 : tie.Need-returns-4
 returns-4 c =
     let declared = c .before .before in
-    simp (usable-yes (declared .before .before), lt-ltb _ _ (declared .if2 .left), lt-leb _ _ (c .if3 .left))
+    let args = declared .before .before .before .before .args in
+    let low = declared .if2 .left in
+    let few = c .if3 .left in
+    simp (
+      usable-yes (declared .before .before),
+      lt-ltb (args .activity) (args .watcher .activities) (omega arith),
+      lt-leb 4096 (args .watcher .taken) (omega arith),
+    )
 
 pub step-answer-spec : {M : Type 1} → statement M
 step-answer-spec =

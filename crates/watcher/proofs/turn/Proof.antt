@@ -1,4 +1,4 @@
--- `watcher::turn` meets its contract. Assumes nothing.
+-- `watcher::turn` meets its contract: what is written is the table's entry, and what that state tells. Assumes nothing.
 use mathlib.Core.Path.{refl}
 use borrow.Author.Needs.{needs}
 use Rattle.watcher.proofs.turn.Statement.{statement}

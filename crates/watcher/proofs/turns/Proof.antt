@@ -1,4 +1,5 @@
--- `watcher::turns` meets its contract. Assumes nothing.
+-- `watcher::turns` meets its contract. The loop's invariant: all turns come to those from `at` on, of what is there now. The measure is how many
+-- constraints are left. Assumes nothing.
 use Prim.Native.Nat.{_≤_, _-_}
 use mathlib.Core.Path.{_≡_, refl, sym, ap, _∙_}
 use borrow.Author.Needs.{needs}
