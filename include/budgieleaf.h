@@ -1,5 +1,6 @@
 /*
- * Budgieleaf from C: a store of traces, and the constraints (DECLARE templates) that hold over them.
+ * Budgieleaf from C: a store of traces, the constraints (DECLARE templates) that hold over them, and a watcher that tells
+ * while a trace grows which constraints still hold.
  *
  * Link with target/staticlib/libcapi.a, which `rt staticlib capi` makes (x86-64 Linux). The archive needs no other
  * library, allocates nothing, keeps nothing between calls and prints nothing. Calls on different memory may run at the
@@ -135,13 +136,14 @@ uint32_t budgieleaf_find(const uint32_t store[2], const uint8_t *events, size_t 
  *   states       256 bytes, one for each constraint: the states of their automata. Nothing else need be known of them.
  *   told         256 bytes, one for each constraint: the state told, 0 to 3.
  * Bytes of both arrays past the last constraint are never written, and nothing need be set before the start. That is 524
- * bytes beside the constraints; a step takes 1,064 bytes of stack and a start 296, on x86-64. A step goes over the
- * constraints once, front to back, and takes the same work for each whatever its template and state: two comparisons and
- * two look-ups in tables, which are put onto the stack first. The time does not grow with the length of the run.
+ * bytes beside the constraints; a step takes 1,072 bytes of stack on x86-64, and so does a start. A step first puts a
+ * table of 1,024 bytes onto the stack, some 160 instructions with its checks, and then goes over the constraints once,
+ * front to back, with the same work for each whatever its template and state: two comparisons and two look-ups, 16
+ * instructions. The time does not grow with the length of the run.
  *
- * What is lent must be as the calls above say. Pass the record, the arrays and the constraints on as the call before left
- * them. Given others, a step still ends, with 0, 1, 6 or 7, and writes nothing but the 3 numbers and the 512 bytes, but
- * what it then tells means nothing.
+ * What is lent must be there as for the calls above. Pass the record, the arrays and the constraints on as the call
+ * before left them. Given others, a step still ends, with 0, 1, 6 or 7, and writes nothing but the 3 numbers and the 512
+ * bytes, but what it then tells means nothing.
  */
 
 /*
