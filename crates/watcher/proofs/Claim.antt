@@ -21,7 +21,7 @@ use Rattle.watcher.proofs.Starting.{start-passed, started-watcher}
 
 -- ## What is told, and what lies past it
 
-tells-each : (n : ℕ) (trace : List ℕ) → all-below n trace ≡ true → (cs : List Constraint) (rest : List ℕ) → all (proper n) cs ≡ true
+pub tells-each : (n : ℕ) (trace : List ℕ) → all-below n trace ≡ true → (cs : List Constraint) (rest : List ℕ) → all (proper n) cs ≡ true
     → Tells n cs trace (map (λ c. outlook n c trace) cs ++ rest)
 tells-each n trace within [] rest h = tt
 tells-each n trace within (c ∷ cs) rest h =

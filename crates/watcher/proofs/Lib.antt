@@ -7,3 +7,4 @@ pub mod Starting
 pub mod Stepping
 pub mod Claim
 pub mod SmallN
+pub mod Sample

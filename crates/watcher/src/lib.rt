@@ -43,6 +43,8 @@ pub const MOST_CONSTRAINTS: usize = 256;
 // The numbers that a constraint takes: template, a, b.
 pub const NUMBERS: usize = 3;
 
+pub const MOST_NUMBERS: usize = NUMBERS * MOST_CONSTRAINTS;
+
 // Document 02's numbers of the refusals that come from here.
 pub const NO_CONSTRAINT: u8 = 13;
 
@@ -209,7 +211,7 @@ fn start_answer(activities: u32, numbers: &[u16]) -> StartAnswer
     if !eventlog::declarable(activities) {
         return refused(eventlog::ACTIVITIES_OUT_OF_RANGE);
     }
-    if NUMBERS * MOST_CONSTRAINTS < numbers.len() {
+    if MOST_NUMBERS < numbers.len() {
         return refused(TOO_MANY);
     }
     if !is_well_formed(activities, numbers) {

