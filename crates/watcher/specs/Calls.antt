@@ -27,6 +27,7 @@ most-constraints = 256
 abbrev pub constraint-at : List ℕ → ℕ → Constraint
 constraint-at numbers i = constraint (getD numbers (3 * i) 0) (getD numbers (3 * i + 1) 0) (getD numbers (3 * i + 2) 0)
 
+-- those that the numbers have whole, in their order
 unfoldable pub given : List ℕ → List Constraint
 given numbers = map (constraint-at numbers) (range 0 (length numbers / 3))
 
@@ -48,7 +49,8 @@ pub record Lent : Type 0 where
 abbrev pub lent : RefT (List ℕ) → RefT (List ℕ) → Lent
 lent states told = record { states = now states; told = now told }
 
--- after a trace; what lies past the last constraint is as it was before
+-- after a trace, by the automata; what lies past the last constraint is as it was before. (`Watching.Request3` says what is told in words
+-- that know no automata.)
 abbrev pub after : ℕ → List ℕ → Lent → List ℕ → Lent
 after n numbers before trace =
     let constraints = given numbers in
