@@ -5,6 +5,7 @@ use eventlog::AddAnswer;
 use eventlog::OpenAnswer;
 use eventlog::Refusal;
 use eventlog::Store;
+use watcher::MOST_CONSTRAINTS;
 use watcher::StartAnswer;
 use watcher::StepAnswer;
 use watcher::Watcher;
@@ -180,12 +181,12 @@ fn put_watcher(numbers: &mut [u32; 3], watcher: Watcher)
     *numbers = [watcher.activities, watcher.constraints, watcher.taken];
 }
 
-fn put_started(watch: &mut [u32; 3], said: StartAnswer) -> u32
-    ensures { λ r. ⌜ (r ≡ number-of (start-said said)) × (now (watch .exit) ≡ opened (now (watch .entry)) (start-said said)) ⌝ }
+fn put_started(watcher: &mut [u32; 3], said: StartAnswer) -> u32
+    ensures { λ r. ⌜ (r ≡ number-of (start-said said)) × (now (watcher .exit) ≡ opened (now (watcher .entry)) (start-said said)) ⌝ }
 {
     match said {
         StartAnswer::Started(new) => {
-            put_watcher(watch, new);
+            put_watcher(watcher, new);
             0
         }
         StartAnswer::Refused(refusal) => refusal.number as u32,
@@ -204,36 +205,36 @@ fn number_of_step(said: StepAnswer) -> u32
 #[no_mangle]
 pub extern "C" fn budgieleaf_watch_start(
     n: u32,
-    watch: &mut [u32; 3],
+    watcher: &mut [u32; 3],
     constraints: &[u16],
-    states: &mut [u8; 256],
-    told: &mut [u8; 256],
+    states: &mut [u8; MOST_CONSTRAINTS],
+    told: &mut [u8; MOST_CONSTRAINTS],
 ) -> u32
-    ensures { λ r. ⌜ StartCalled n (now (constraints .entry)) (lent (states .entry) (told .entry)) (now (watch .entry))
-        r (now (watch .exit)) (lent (states .exit) (told .exit)) ⌝ }
+    ensures { λ r. ⌜ StartCalled n (now (constraints .entry)) (lent (states .entry) (told .entry)) (now (watcher .entry))
+        r (now (watcher .exit)) (lent (states .exit) (told .exit)) ⌝ }
 {
-    put_started(watch, watcher::start(n, constraints, states, told))
+    put_started(watcher, watcher::start(n, constraints, states, told))
 }
 
 #[no_mangle]
 pub extern "C" fn budgieleaf_watch_step(
-    watch: &mut [u32; 3],
+    watcher: &mut [u32; 3],
     constraints: &[u16],
-    states: &mut [u8; 256],
-    told: &mut [u8; 256],
+    states: &mut [u8; MOST_CONSTRAINTS],
+    told: &mut [u8; MOST_CONSTRAINTS],
     activity: u32,
 ) -> u32
-    ensures { λ r. ⌜ StepCalled (now (constraints .entry)) (lent-watched (watch .entry) (states .entry) (told .entry)) activity
-        r (lent-watched (watch .exit) (states .exit) (told .exit)) ⌝ }
+    ensures { λ r. ⌜ StepCalled (now (constraints .entry)) (lent-watched (watcher .entry) (states .entry) (told .entry)) activity
+        r (lent-watched (watcher .exit) (states .exit) (told .exit)) ⌝ }
 {
     let kept = Watcher {
-        activities: watch[0],
-        constraints: watch[1],
-        taken: watch[2],
+        activities: watcher[0],
+        constraints: watcher[1],
+        taken: watcher[2],
     };
     let result = watcher::step(kept, constraints, states, told, activity);
     let after = result.watcher;
-    *watch = [after.activities, after.constraints, after.taken];
+    *watcher = [after.activities, after.constraints, after.taken];
     let said = result.answer;
     number_of_step(said)
 }
