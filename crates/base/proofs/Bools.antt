@@ -2,7 +2,7 @@
 -- Assumes nothing.
 use Prim.Native.Nat.{ℕ, zero, suc}
 use mathlib.Core.Path.{_≡_, refl, sym, _∙_}
-use mathlib.Core.Bool.{Bool, true, false, Bool·beq, _&&_, _||_, true≢false, false≢true}
+use mathlib.Core.Bool.{Bool, true, false, not, Bool·beq, _&&_, _||_, true≢false, false≢true}
 use Rattle.base.specs.Logic.{_implies_}
 
 pub either {ℓ} : {P : Type ℓ} (b : Bool) → (b ≡ true → P) → (b ≡ false → P) → P
@@ -11,6 +11,10 @@ either false yes-case no-case = no-case refl
 
 pub clash {ℓ} : {P : Type ℓ} {b : Bool} → b ≡ true → b ≡ false → P
 clash p q = absurd (true≢false (sym p ∙ q))
+
+pub not-itself {ℓ} : {P : Type ℓ} (truth : Bool) → truth ≡ not truth → P
+not-itself true e = absurd (true≢false e)
+not-itself false e = absurd (false≢true e)
 
 -- ## Joined
 
@@ -24,6 +28,11 @@ and-right false q h = cc
 
 pub and-both : (p q : Bool) → p ≡ true → q ≡ true → p && q ≡ true
 and-both p q h k = rw (h, k)
+
+-- what passes for both truth values passes for each
+pub at-both : (p : Bool → Bool) → p true && p false ≡ true → (truth : Bool) → p truth ≡ true
+at-both p h true = and-left (p true) (p false) h
+at-both p h false = and-right (p true) (p false) h
 
 pub neither : (p q : Bool) → p || q ≡ false → (p ≡ false) × (q ≡ false)
 neither true q e = clash refl e

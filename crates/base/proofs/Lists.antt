@@ -1,4 +1,4 @@
--- Laws of lists: all, find index, filter, count, range, flat map, equality, and parts.
+-- Laws of lists: all, map, find index, filter, count, range, flat map, equality, and parts.
 -- Assumes nothing.
 use Prim.Native.Nat.{ℕ, zero, suc, _+_, _-_, _≤_, _<_}
 use native.Mathlib.Omega.{arith}
@@ -50,6 +50,14 @@ pub all-append {ℓ} : {A : Type ℓ} (p : A → Bool) (xs ys : List A) → all 
 all-append p [] ys h k = k
 all-append p (x ∷ xs) ys h k =
     and-both (p x) (all p (xs ++ ys)) (and-left (p x) (all p xs) h) (all-append p xs ys (and-right (p x) (all p xs) h) k)
+
+pub all-map : {A B : Type 0} (p : B → Bool) (f : A → B) (xs : List A) → all p (map f xs) ≡ all (λ x. p (f x)) xs
+all-map p f [] = refl
+all-map p f (x ∷ xs) = ap (λ rest. p (f x) && rest) (all-map p f xs)
+
+pub map-map : {A B C : Type 0} (f : B → C) (g : A → B) (l : List A) → map f (map g l) ≡ map (λ x. f (g x)) l
+map-map f g [] = refl
+map-map f g (x ∷ l) = ap (λ r. f (g x) ∷ r) (map-map f g l)
 
 pub all-take {ℓ} : {A : Type ℓ} (p : A → Bool) (n : ℕ) (xs : List A) → all p xs ≡ true → all p (take n xs) ≡ true
 all-take p zero xs h = refl
@@ -299,3 +307,8 @@ range-at f more n d h = rw zero-add at (go 0 more n h)
     go first zero n h = absurd (not-suc-le-zero h)
     go first (suc more) zero h = rw add-zero
     go first (suc more) (suc n) h = rw (add-suc, ← suc-add) (go (suc first) more n (le-of-suc-le-suc h))
+
+pub same-on-range : (f g : ℕ → ℕ) (first more : ℕ) → ((i : ℕ) → i < first + more → f i ≡ g i) → map f (range first more) ≡ map g (range first more)
+same-on-range f g first zero same = refl
+same-on-range f g first (suc more) same =
+    ap₂ _∷_ (same first (omega arith)) (same-on-range f g (suc first) more (λ i h. same i (omega arith)))

@@ -85,6 +85,12 @@ followed-constraint n c few over trace within =
     ∙ rw (a, b, same-trace n few trace within)
     (either (eqb (c .a) (c .b)) (λ e. alone (c .template) (c .a) _ (c .b) trace (low (c .template) (c .a) (c .b) (over .4) e)) (λ e. rw e))
 
+-- more events on
+pub follow-append : (template a b k : ℕ) (trace more : List ℕ)
+    → follow template a b k (trace ++ more) ≡ follow template a b (follow template a b k trace) more
+follow-append template a b k [] more = refl
+follow-append template a b k (x ∷ trace) more = follow-append template a b _ trace more
+
 -- a beside itself is as a beside what no event is
 beside-none : (template n a k : ℕ) (trace : List ℕ) → all (λ x. ltb x n) trace ≡ true → follow template a a k trace ≡ follow template a n k trace
 beside-none template n a k [] within = refl

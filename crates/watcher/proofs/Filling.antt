@@ -5,34 +5,12 @@ use native.Mathlib.Omega.{arith}
 use native.Mathlib.Nat.{zero-add}
 use mathlib.Core.Path.{_≡_, sym, ap, ap₂, _∙_}
 use mathlib.Core.List.{List, _++_, map}
-use lib.ListN.{length, getD, set, take, drop, length-map}
-use lib.Seq.{drop-cons, getD-at, set-at, take-suc, take-all, length-take-le, append-snoc}
+use lib.ListN.{length, getD, set, drop, length-map}
 use Rattle.base.specs.Lists.{range}
 use Rattle.base.proofs.Lists.{range-at, range-length}
+use Rattle.base.proofs.Stores.{front, front-here, front-on, front-all}
 use Rattle.watcher.specs.Calls.{Lent}
 use Rattle.watcher.specs.Loops.{each-of, put}
-
--- ## A list whose front is new
-
-abbrev front : List ℕ → ℕ → List ℕ → List ℕ
-front new n l = take n new ++ drop n l
-
-front-here : (new : List ℕ) (n : ℕ) (l : List ℕ) → n ≤ length new → n < length l → getD (front new n l) n 0 ≡ getD l n 0
-front-here new n l h k =
-    ap (λ r. getD (take n new ++ r) n 0) (drop-cons l n 0 k) ∙ getD-at (take n new) (getD l n 0) (drop (suc n) l) 0 n (length-take-le n new h)
-
-front-on : (new : List ℕ) (n : ℕ) (l : List ℕ) → n < length new → n < length l → set (front new n l) n (getD new n 0) ≡ front new (suc n) l
-front-on new n l h k =
-    let rest = drop (suc n) l in
-    ap (λ r. set (take n new ++ r) n (getD new n 0)) (drop-cons l n 0 k)
-    ∙ set-at (take n new) (getD l n 0) rest (getD new n 0) n (length-take-le n new (omega arith))
-    ∙ sym (append-snoc (take n new) (getD new n 0) rest)
-    ∙ ap (λ r. r ++ rest) (sym (take-suc new n 0 h))
-
-front-all : (new : List ℕ) (n : ℕ) (l : List ℕ) → length new ≡ n → front new n l ≡ new ++ drop n l
-front-all new n l e = ap (λ r. r ++ drop n l) (take-all n new (omega arith))
-
--- ## The loops
 
 module _ (table : List ℕ) (turn : ℕ → Lent → Lent) (count : ℕ) (new : ℕ → ℕ) (l₀ : Lent)
     (each : (i : ℕ) (l : Lent) → i < count → getD (l .states) i 0 ≡ getD (l₀ .states) i 0 → turn i l ≡ put table i (new i) l)

@@ -1,8 +1,8 @@
 -- What start and step leave, by their loops, is `after`.
 -- Assumes nothing.
-use Prim.Native.Nat.{ℕ, zero, suc, _+_, _-_, _*_, _/_, _%_, _≤_, _<_}
+use Prim.Native.Nat.{ℕ, _+_, _-_, _*_, _/_, _%_, _≤_, _<_}
 use native.Mathlib.Omega.{arith}
-use mathlib.Core.Path.{_≡_, refl, sym, ap, ap₂, _∙_}
+use mathlib.Core.Path.{_≡_, sym, ap, ap₂, _∙_}
 use mathlib.Core.Bool.{true, _&&_}
 use mathlib.Core.List.{List, [], _∷_, _++_, map}
 use borrow.Author.Tests.{eqb-true, leb-true, ltb-true, ltb-false, not-false}
@@ -12,17 +12,17 @@ use lib.Seq.{drop-at}
 use Rattle.base.specs.Lists.{all, range}
 use Rattle.base.specs.Checks.{gives, reply}
 use Rattle.base.proofs.Bools.{and-left, and-right}
-use Rattle.base.proofs.Lists.{all-range, range-at, range-length}
+use Rattle.base.proofs.Lists.{map-map, all-range, same-on-range, range-at, range-length}
 use Rattle.base.proofs.Checks.{None-fail, none-fail}
 use Rattle.declare.specs.declared.constraints.Constraint.{Constraint}
 use Rattle.declare.specs.Meaning.{between}
 use Rattle.declare.specs.Constraints.{pairs, Over}
 use Rattle.declare.proofs.Shifting.{follow-small}
+use Rattle.declare.proofs.Following.{follow-append}
 use Rattle.eventlog.specs.Store.{declarable}
 use Rattle.watcher.specs.Calls.{constraint-at, given, proper, well-formed, Lent, after, start-checks}
 use Rattle.watcher.specs.Table.{table, place, reached, state-after, outlook}
 use Rattle.watcher.specs.Loops.{each-of, put, first-turn, turn-by}
-use Rattle.watcher.proofs.Outlooks.{follow-append}
 use Rattle.watcher.proofs.Turning.{all-from, all-given}
 use Rattle.watcher.proofs.Filling.{filled}
 use Rattle.watcher.proofs.Looking.{outlook-there, next-there}
@@ -45,15 +45,6 @@ proper-over n c h =
     )
 
 -- ## The constraints by their places
-
-map-map : {A B C : Type 0} (f : B → C) (g : A → B) (l : List A) → map f (map g l) ≡ map (λ x. f (g x)) l
-map-map f g [] = refl
-map-map f g (x ∷ l) = ap (λ r. f (g x) ∷ r) (map-map f g l)
-
-same-on-range : (f g : ℕ → ℕ) (first more : ℕ) → ((i : ℕ) → i < first + more → f i ≡ g i) → map f (range first more) ≡ map g (range first more)
-same-on-range f g first zero same = refl
-same-on-range f g first (suc more) same =
-    ap₂ _∷_ (same first (omega arith)) (same-on-range f g (suc first) more (λ i h. same i (omega arith)))
 
 module _ (numbers : List ℕ) where
   count : ℕ

@@ -1,23 +1,23 @@
 -- What the automata's states tell is the state of the definition: one test over the table, and one lemma.
 -- Assumes nothing.
-use Prim.Native.Nat.{ℕ, zero, suc, _≤_, _<_}
+use Prim.Native.Nat.{ℕ, zero, suc, _<_}
 use native.Mathlib.Omega.{arith}
 use mathlib.Core.Path.{_≡_, refl, sym, ap, subst, _∙_}
-use mathlib.Core.Bool.{Bool, true, false, not, _&&_, _||_, Bool·beq, true≢false, false≢true}
+use mathlib.Core.Bool.{Bool, true, false, not, _&&_, _||_, Bool·beq}
 use mathlib.Core.Logic.{_⊎_, inl, inr}
 use mathlib.Core.List.{List, [], _∷_, _++_}
-use borrow.Author.Tests.{eqb-true, eqb-false, leb-true, ltb-true, lt-ltb, not-true, eq-eqb, ne-eqb}
+use borrow.Author.Tests.{eqb-true, eqb-false, ltb-true, lt-ltb, not-true, eq-eqb, ne-eqb}
 use lib.Dec.{eqb, leb, ltb}
 use Rattle.base.specs.Logic.{_implies_, if_then_else_}
 use Rattle.base.specs.Lists.{all, range}
-use Rattle.base.proofs.Bools.{equal-same, and-left, and-right, and-both, implied, fails-too, either, clash}
+use Rattle.base.proofs.Bools.{equal-same, and-left, and-right, and-both, implied, fails-too, either, at-both, clash, not-itself}
 use Rattle.base.proofs.Lists.{all-range, all-append}
 use Rattle.declare.specs.declared.constraints.Constraint.{Constraint}
 use Rattle.declare.specs.Automata.{next-of, verdict-of, follow, letter}
 use Rattle.declare.specs.Constraints.{Over}
 use Rattle.declare.proofs.Agreement.{letter-small}
-use Rattle.declare.proofs.Shifting.{next-small, follow-small}
-use Rattle.declare.proofs.Following.{follow-holds-constraint}
+use Rattle.declare.proofs.Shifting.{at-every-state, next-small, follow-small}
+use Rattle.declare.proofs.Following.{follow-append, follow-holds-constraint}
 use Rattle.eventlog.specs.Store.{all-below}
 use Rattle.watcher.specs.Outlook.{holds-on, Every, Some, State}
 use Rattle.watcher.specs.Table.{holds-in, second, reaches, outlook-in, reached, outlook}
@@ -36,10 +36,6 @@ read n c trace (suc zero) h = (true, (h .0, inr (h .1, refl)))
 read n c trace (suc (suc zero)) h = (false, (h .0, inr (h .1, refl)))
 read n c trace (suc (suc (suc zero))) h = (false, (h .0, inl (h .1, refl)))
 read n c trace (suc (suc (suc (suc s)))) h = absurd h
-
-not-itself {ℓ} : {P : Type ℓ} (truth : Bool) → truth ≡ not truth → P
-not-itself true e = absurd (true≢false e)
-not-itself false e = absurd (false≢true e)
 
 module _ (n : ℕ) (c : Constraint) (trace : List ℕ) where
   agree : (truth : Bool) (s s′ : ℕ) → Reading n c trace s truth → Reading n c trace s′ truth → s ≡ s′
@@ -62,10 +58,6 @@ module _ (n : ℕ) (c : Constraint) (trace : List ℕ) where
       let y = read n c trace s′ k in
       agree (x .0) s s′ (x .1) (subst (Reading n c trace s′) (sym (y .1 .0) ∙ x .1 .0) (y .1))
 
-at-both : (p : Bool → Bool) → p true && p false ≡ true → (truth : Bool) → p truth ≡ true
-at-both p h true = and-left (p true) (p false) h
-at-both p h false = and-right (p true) (p false) h
-
 -- ## The test over the table: what is settled stays so under every letter that can come
 
 -- of one activity no b comes, and nothing else where it is the only one declared
@@ -85,24 +77,13 @@ stays only template k letter =
     let next = next-of template k letter in
     comes only template letter implies (passed-on only template k next true && passed-on only template k next false)
 
-abbrev all-stay : Bool → ℕ → Bool
-all-stay only templates = all (λ t. all (λ k. all (stays only t k) (range 0 3)) (range 0 8)) (range 1 templates)
-
--- with others declared; where a is the only one there are templates 1 to 8 alone
-some-others : all-stay false 24 ≡ true
+-- with others declared, and without (then there are templates 1 to 8 alone, but the test holds of all)
+all-stay : (only : Bool) → all (λ t. all (λ k. all (stays only t k) (range 0 3)) (range 0 8)) (range 1 24) ≡ true
 unfolding next-of verdict-of
-some-others = refl
-
-no-other : all-stay true 8 ≡ true
-unfolding next-of verdict-of
-no-other = refl
+all-stay true = refl
+all-stay false = refl
 
 -- ## The lemma
-
-pub follow-append : (template a b k : ℕ) (trace more : List ℕ)
-    → follow template a b k (trace ++ more) ≡ follow template a b (follow template a b k trace) more
-follow-append template a b k [] more = refl
-follow-append template a b k (x ∷ trace) more = follow-append template a b _ trace more
 
 -- where no way leads to the other truth, the state has this one
 settled-holds : (only : Bool) (template : ℕ) (truth : Bool) (k : ℕ) → settled only template truth k ≡ true → holds-in template k ≡ truth
@@ -125,12 +106,6 @@ module _ (n : ℕ) (c : Constraint) (over : Over n c) where
       either (leb (c .template) 12) (λ k. omega (arith, ltb-true (c .a) (c .b) (rw (h, k) at (over .4))))
       (λ k. eqb-false (c .a) (c .b) (not-true _ (rw (h, k) at (over .4))) same)
 
-  -- with one activity there are no others
-  single : eqb n 1 ≡ true → leb (c .template) 8 ≡ true
-  single e =
-      let one = eqb-true n 1 e in
-      either (leb (c .template) 8) (λ h. h) (λ h. absurd (apart h (omega arith)))
-
   letter-comes : (x : ℕ) → x < n → comes (eqb n 1) (c .template) (letter (c .a) (c .b) x) ≡ true
   letter-comes x small =
       either (leb (c .template) 8)
@@ -140,16 +115,8 @@ module _ (n : ℕ) (c : Constraint) (over : Over n c) where
 
   stays-at : (k letter : ℕ) → k < 8 → letter < 3 → stays (eqb n 1) (c .template) k letter ≡ true
   stays-at k letter small few =
-      either (eqb n 1)
-      (λ e. rw e (at-each true 8 (leb-true (c .template) 8 (single e)) no-other))
-      (λ e. rw e (at-each false 24 (over .1) some-others))
-    where
-      at-each : (only : Bool) (templates : ℕ) → c .template ≤ templates → all-stay only templates ≡ true → stays only (c .template) k letter ≡ true
-      at-each only templates high h =
-          all-range (stays only (c .template) k) 0 3 letter
-          (all-range (λ k. all (stays only (c .template) k) (range 0 3)) 0 8 k
-          (all-range (λ t. all (λ k. all (stays only t k) (range 0 3)) (range 0 8)) 1 templates (c .template) h (over .0) (omega arith)) (omega arith) small)
-          (omega arith) few
+      all-range (stays (eqb n 1) (c .template) k) 0 3 letter
+      (at-every-state (λ t k. all (stays (eqb n 1) t k) (range 0 3)) (all-stay (eqb n 1)) (c .template) k (over .0) (over .1) small) (omega arith) few
 
   abbrev led-to : ℕ → List ℕ → ℕ
   led-to k more = follow (c .template) (c .a) (c .b) k more

@@ -3,11 +3,12 @@
 use Prim.Native.Nat.{ℕ, suc, _+_, _-_, _/_, _≤_, _<_}
 use native.Mathlib.Omega.{arith}
 use native.Mathlib.Numerals.{add-one}
-use mathlib.Core.Path.{_≡_, refl, sym, ap, _∙_}
+use mathlib.Core.Path.{_≡_, sym, ap, _∙_}
 use mathlib.Core.Bool.{Bool, true, _&&_}
-use mathlib.Core.List.{List, [], _∷_, map}
+use mathlib.Core.List.{List, map}
 use lib.ListN.{length}
 use Rattle.base.specs.Lists.{all, range}
+use Rattle.base.proofs.Lists.{all-map}
 use Rattle.watcher.specs.Calls.{constraint-at, given, proper, Lent}
 use Rattle.watcher.specs.Loops.{each-of}
 
@@ -35,11 +36,8 @@ all-from test count at = all test (range at (count - at))
 
 all-due : {A : Type 0} (test : A → Bool) (f : ℕ → A) (count : ℕ) → all test (map f (range 0 count)) ≡ all-from (λ i. test (f i)) count 0
 unfolding all-from
-all-due test f count = let all-of : count ≡ count - 0 = omega arith in each (range 0 count) ∙ ap (λ n. all (λ i. test (f i)) (range 0 n)) all-of
-  where
-    each : (l : List ℕ) → all test (map f l) ≡ all (λ i. test (f i)) l
-    each [] = refl
-    each (x ∷ l) = ap (λ rest. test (f x) && rest) (each l)
+all-due test f count =
+    let all-of : count ≡ count - 0 = omega arith in all-map test f (range 0 count) ∙ ap (λ n. all (λ i. test (f i)) (range 0 n)) all-of
 
 pub all-given : (n : ℕ) (numbers : List ℕ)
     → all (proper n) (given numbers) ≡ all-from (λ i. proper n (constraint-at numbers i)) (length numbers / 3) 0
