@@ -6,15 +6,15 @@ use native.Mathlib.Decide.{ℕ-discrete}
 use native.Mathlib.Nat.{zero-add, add-zero, add-suc, suc-add, not-suc-le-zero, le-of-suc-le-suc}
 use mathlib.Core.Path.{_≡_, refl, sym, ap, ap₂, subst, _∙_}
 use mathlib.Core.Logic.{_⊎_, inl, inr, ⊎-elim}
-use mathlib.Core.Bool.{Bool, true, false, not, _&&_, true≢false, false≢true}
-use mathlib.Core.List.{List, [], _∷_, _++_, map, append-assoc, List·Memᴰ, List·Memᴰ·head, List·Memᴰ·tail, List·Memᴰ·not-nil, List·Memᴰ·cases-cons, List·Memᴰ·append-cases, Memᴰ·append-left, Memᴰ·append-right, Sublistᴰ, Sublistᴰ·slnil, Sublistᴰ·cons, Sublistᴰ·cons-cons, List·Permᴰ, List·Permᴰ·nil, List·Permᴰ·cons, List·Permᴰ·swap, List·Permᴰ·trans}
+use mathlib.Core.Bool.{Bool, true, false, not, _&&_, and-true, true≢false, false≢true}
+use mathlib.Core.List.{List, [], _∷_, _++_, map, append-assoc, append-nil, List·Memᴰ, List·Memᴰ·head, List·Memᴰ·tail, List·Memᴰ·not-nil, List·Memᴰ·cases-cons, List·Memᴰ·append-cases, Memᴰ·append-left, Memᴰ·append-right, Sublistᴰ, Sublistᴰ·slnil, Sublistᴰ·cons, Sublistᴰ·cons-cons, List·Permᴰ, List·Permᴰ·nil, List·Permᴰ·cons, List·Permᴰ·swap, List·Permᴰ·trans}
 use borrow.Author.Tests.{eqb-true, eqb-false}
 use lib.Dec.{eqb, eqb·zero-suc, eqb·suc-suc}
 use lib.ListN.{length, take, drop, getD, length-append}
 use lib.Seq.{slice, take-nil}
 use Rattle.base.specs.Logic.{if_then_else_}
 use Rattle.base.specs.Lists.{filter, count, all, find-index, range, flat-map, equal-lists}
-use Rattle.base.proofs.Bools.{and-left, and-right, and-both, either}
+use Rattle.base.proofs.Bools.{and-left, and-right, and-both, either, agree, by-cases}
 
 -- ## Parts
 
@@ -28,6 +28,14 @@ pub part-slice {ℓ} : {A : Type ℓ} (from to : ℕ) (l : List A) → from ≤ 
 part-slice from to l h =
     let e : from + (to - from) ≡ to = omega arith in
     take-drop from (to - from) l ∙ ap (λ (n : ℕ). slice from n l) e
+
+-- what is so for the empty list, and with a list for one that is longer by a last element, is so for every list
+pub from-last {ℓ κ} : {A : Type ℓ} (P : List A → Type κ) → P [] → ((xs : List A) (x : A) → P xs → P (xs ++ x ∷ [])) → (xs : List A) → P xs
+from-last {A = A} P start step xs = go [] xs start
+  where
+    go : (front rest : List A) → P front → P (front ++ rest)
+    go front [] h = rw (append-nil front) h
+    go front (x ∷ rest) h = rw (← (append-assoc front (x ∷ []) rest)) (go (front ++ x ∷ []) rest (step front x h))
 
 -- ## Equality
 
@@ -50,6 +58,11 @@ pub all-append {ℓ} : {A : Type ℓ} (p : A → Bool) (xs ys : List A) → all 
 all-append p [] ys h k = k
 all-append p (x ∷ xs) ys h k =
     and-both (p x) (all p (xs ++ ys)) (and-left (p x) (all p xs) h) (all-append p xs ys (and-right (p x) (all p xs) h) k)
+
+pub all-last {ℓ} : {A : Type ℓ} (p : A → Bool) (xs : List A) (x : A) → all p (xs ++ x ∷ []) ≡ all p xs && p x
+unfolding agree
+all-last p [] x = and-true (p x)
+all-last p (y ∷ ys) x = ap (λ (b : Bool). p y && b) (all-last p ys x) ∙ by-cases 3 (λ a b c. a && (b && c)) (λ a b c. (a && b) && c) refl (p y) (all p ys) (p x)
 
 pub all-map : {A B : Type 0} (p : B → Bool) (f : A → B) (xs : List A) → all p (map f xs) ≡ all (λ x. p (f x)) xs
 all-map p f [] = refl

@@ -1,26 +1,24 @@
--- Laws of fields, for any width: a field is well formed and has the value n just where it is `spell` of n, and reading from the left
--- with the value so far comes to `field-of`.
+-- Laws of fields, for any width, by a field's last column: a field is well formed and has the value n just where it is `spell` of n, and
+-- reading from the left with the value so far comes to what the digits and their places say.
 -- Assumes nothing.
 use Prim.Native.Nat.{ℕ, zero, suc, _+_, _-_, _*_, _/_, _%_, _^_, _≤_, _<_}
-use mathlib.Core.Path.{_≡_, refl, sym, ap, _∙_}
+use mathlib.Core.Path.{_≡_, refl, sym, ap, ap₂, _∙_}
 use mathlib.Core.Logic.{_↔_}
-use mathlib.Core.Bool.{Bool, true, false, not, _&&_}
-use mathlib.Core.List.{List, [], _∷_, _++_, append-assoc, append-nil, reverse, reverse-cons}
+use mathlib.Core.Bool.{Bool, true, false, not, _&&_, _||_, and-true, and-false, or-true}
+use mathlib.Core.List.{List, [], _∷_, _++_, append-assoc, append-nil, reverse, reverse-cons, foldl-append}
 use native.Mathlib.Omega.{arith}
-use native.Mathlib.Numerals.{add-one}
-use native.Mathlib.Nat.{add-zero, zero-add, sub-zero, pow-suc, pow-succ', mul-assoc, mul-le-mul-right, lt-of-lt-of-le}
+use native.Mathlib.Nat.{sub-zero, zero-mul, zero-add, pow-suc, mul-assoc, one-le-mul, one-le-pow, pow-le-pow-right}
 use lib.Dec.{eqb, leb}
-use lib.ListN.{length, getD, drop, replicate, length-append, length-replicate, length-reverse}
-use lib.Seq.{drop-cons}
-use borrow.Author.Tests.{le-leb, lt-leb, leb-true, leb-false, ne-eqb, eqb-true, eqb-false, not-true}
+use lib.ListN.{length, take, drop, replicate, length-append, length-replicate, length-reverse, take-append-drop}
+use borrow.Author.Tests.{le-leb, lt-leb, leb-true, leb-false, eqb-true, eqb-false}
 use Rattle.base.specs.Logic.{if_then_else_}
 use Rattle.fields.specs.declared.Field.{Field}
 use Rattle.fields.specs.declared.Scan.{Scan}
-use Rattle.fields.specs.declared.Scan.the-variants.{Blanks, Digits, Broken}
-use Rattle.fields.specs.Field.{blank, is-digit, all-digits, numeral, well-formed, value-from, value, digits-of, spell, widest, field-of}
-use Rattle.fields.specs.Scan.{scan-byte, scan-from, so-far, finish}
-use Rattle.base.proofs.Lists.{all-append}
-use Rattle.base.proofs.Bools.{and-left, and-right, and-both, either, clash}
+use Rattle.fields.specs.declared.Scan.the-variants.{Blanks}
+use Rattle.fields.specs.Field.{blank, is-digit, all-digits, numeral, well-formed, digit, value, digits-of, spell, widest, field-of}
+use Rattle.fields.specs.Scan.{scan-byte, scanned, so-far, finish, are-blanks, reached, Request4}
+use Rattle.base.proofs.Lists.{all-last, from-last}
+use Rattle.base.proofs.Bools.{and-left, and-right, and-both, either, clash, agree, by-cases}
 
 -- ## Spelling, from the right
 
@@ -84,7 +82,7 @@ spell-short width n h =
     (rw (lt-leb 10 n h) at (spell-step width n))
     ∙ ap (λ (k : ℕ). replicate width blank ++ (k ∷ [])) last
 
--- ## What is spelled is a field with that value
+-- ## One column more
 
 pub digit-is : (d : ℕ) → is-digit d ≡ true → (48 ≤ d) × (d ≤ 57)
 digit-is d e = (leb-true 48 d (and-left (leb 48 d) (leb d 57) e), leb-true d 57 (and-right (leb 48 d) (leb d 57) e))
@@ -92,67 +90,91 @@ digit-is d e = (leb-true 48 d (and-left (leb 48 d) (leb d 57) e), leb-true d 57 
 is-a-digit : (d : ℕ) → 48 ≤ d → d ≤ 57 → is-digit d ≡ true
 is-a-digit d low high = and-both (leb 48 d) (leb d 57) (le-leb 48 d low) (le-leb d 57 high)
 
-not-blank : (d : ℕ) → is-digit d ≡ true → eqb d blank ≡ false
-not-blank d e = let h = digit-is d e in ne-eqb d 32 (λ q. omega arith)
+length-last : (xs : List ℕ) (d : ℕ) → length (xs ++ d ∷ []) ≡ suc (length xs)
+length-last xs d = omega (arith, length-append xs (d ∷ []))
 
-first-digit : (b : ℕ) (bs : List ℕ) → all-digits (b ∷ bs) ≡ true → is-digit b ≡ true
-first-digit b bs p = and-left (is-digit b) (all-digits bs) p
+-- the digits before it stand one place higher
+value-last : (xs : List ℕ) (d : ℕ) → value (xs ++ d ∷ []) ≡ value xs * 10 + digit d
+value-last [] d = omega arith
+value-last (b ∷ bs) d =
+    let higher : digit b * 10 ^ suc (length bs) ≡ digit b * 10 ^ length bs * 10 =
+    ap (λ (k : ℕ). digit b * k) (pow-suc 10 (length bs)) ∙ sym (mul-assoc (digit b) (10 ^ length bs) 10) in
+    rw (length-last bs d) (omega (arith, higher, value-last bs d))
 
-other-digits : (b : ℕ) (bs : List ℕ) → all-digits (b ∷ bs) ≡ true → all-digits bs ≡ true
-other-digits b bs p = and-right (is-digit b) (all-digits bs) p
+value-blank : (b : ℕ) (bs : List ℕ) → eqb b blank ≡ true → value (b ∷ bs) ≡ value bs
+value-blank b bs q =
+    rw (eqb-true b 32 q) (ap (λ (k : ℕ). k + value bs) (zero-mul (10 ^ length bs)) ∙ zero-add (value bs))
 
--- a number of more than one digit: its first is one of 1 to 9
-leading : (b c : ℕ) (cs : List ℕ) → numeral (b ∷ (c ∷ cs)) ≡ true → (is-digit b ≡ true) × (not (eqb b 48) ≡ true) × (all-digits (c ∷ cs) ≡ true)
-leading b c cs p =
-    let rest : not (eqb b 48) && all-digits (c ∷ cs) ≡ true = and-right (is-digit b) (not (eqb b 48) && all-digits (c ∷ cs)) p in (
-      and-left (is-digit b) (not (eqb b 48) && all-digits (c ∷ cs)) p,
-      and-left (not (eqb b 48)) (all-digits (c ∷ cs)) rest,
-      and-right (not (eqb b 48)) (all-digits (c ∷ cs)) rest,
-    )
+value-blanks : (xs : List ℕ) → are-blanks xs ≡ true → value xs ≡ 0
+value-blanks [] p = refl
+value-blanks (b ∷ bs) p =
+    value-blank b bs (and-left (eqb b blank) (are-blanks bs) p) ∙ value-blanks bs (and-right (eqb b blank) (are-blanks bs) p)
 
-numeral-of :
-    (b c : ℕ) (cs : List ℕ) → is-digit b ≡ true → not (eqb b 48) ≡ true → all-digits (c ∷ cs) ≡ true → numeral (b ∷ (c ∷ cs)) ≡ true
-numeral-of b c cs p q r =
-    and-both (is-digit b) (not (eqb b 48) && all-digits (c ∷ cs)) p (and-both (not (eqb b 48)) (all-digits (c ∷ cs)) q r)
+-- a number that starts with 1 to 9 is above 0
+above-zero : (b : ℕ) (bs : List ℕ) → is-digit b ≡ true → eqb b 48 ≡ false → 1 ≤ value (b ∷ bs)
+above-zero b bs e q =
+    let range = digit-is b e in
+    let apart = eqb-false b 48 q in
+    let first : 1 ≤ (b - 48) * 10 ^ length bs = one-le-mul (omega arith) (one-le-pow (length bs) 10 (omega arith)) in
+    rw e (omega arith)
 
-pub value-snoc :
-    (v : ℕ) (xs : List ℕ) (d : ℕ) → is-digit d ≡ true →
-    value-from v (xs ++ (d ∷ [])) ≡ value-from v xs * 10 + (d - 48)
-value-snoc v [] d e = rw (not-blank d e)
-value-snoc v (b ∷ bs) d e =
+positive : (b : ℕ) (bs : List ℕ) → numeral (b ∷ bs) && leb 1 (value (b ∷ bs)) ≡ is-digit b && (not (eqb b 48) && all-digits bs)
+positive b [] =
+    either (is-digit b)
+    (λ e.
+    either (eqb b 48)
+    (λ q. let at-zero = eqb-true b 48 q in rw (e, q) (lt-leb 1 ((b - 48) * 1 + 0) (omega arith)))
+    (λ q. rw (e, q) (le-leb 1 ((b - 48) * 1 + 0) (rw e at (above-zero b [] e q)))))
+    (λ e. rw e)
+positive b (c ∷ cs) =
+    either (is-digit b)
+    (λ e.
+    either (eqb b 48)
+    (λ q. rw (e, q))
+    (λ q. rw (le-leb 1 (value (b ∷ (c ∷ cs))) (above-zero b (c ∷ cs) e q), e, q) (and-true (all-digits (c ∷ cs)))))
+    (λ e. rw e)
+
+number-last : (b : ℕ) (bs : List ℕ) (d : ℕ) → numeral (b ∷ (bs ++ d ∷ [])) ≡ is-digit d && (numeral (b ∷ bs) && leb 1 (value (b ∷ bs)))
+unfolding agree
+number-last b bs d =
+    more-digits bs ∙ ap (λ (p : Bool). is-digit b && (not (eqb b 48) && p)) (all-last is-digit bs d)
+    ∙ by-cases 4 (λ p q r t. p && (q && (r && t))) (λ p q r t. t && (p && (q && r))) refl (is-digit b) (not (eqb b 48)) (all-digits bs) (is-digit d)
+    ∙ ap (λ (p : Bool). is-digit d && p) (sym (positive b bs))
+  where
+    more-digits : (cs : List ℕ) → numeral (b ∷ (cs ++ d ∷ [])) ≡ is-digit b && (not (eqb b 48) && all-digits (cs ++ d ∷ []))
+    more-digits [] = refl
+    more-digits (c ∷ cs) = refl
+
+-- a digit may follow blanks, and a number above 0
+abbrev goes-on : List ℕ → Bool
+goes-on xs = are-blanks xs || (well-formed xs && leb 1 (value xs))
+
+formed-last : (xs : List ℕ) (d : ℕ) → well-formed (xs ++ d ∷ []) ≡ is-digit d && goes-on xs
+formed-last [] d =
+    either (eqb d blank)
+    (λ q. rw (eqb-true d 32 q))
+    (λ q. rw q (sym (and-true (is-digit d))))
+formed-last (b ∷ bs) d =
     either (eqb b blank)
-    (λ q. rw q (value-snoc v bs d e))
-    (λ q. rw q (value-snoc (v * 10 + (b - 48)) bs d e))
+    (λ q. rw (value-blank b bs q, q) (formed-last bs d))
+    (λ q. rw q (number-last b bs d))
 
-digits-snoc : (xs : List ℕ) (d : ℕ) → all-digits xs ≡ true → is-digit d ≡ true → all-digits (xs ++ (d ∷ [])) ≡ true
-digits-snoc xs d p e = all-append is-digit xs (d ∷ []) p (and-both (is-digit d) true e refl)
+blanks-unformed : (xs : List ℕ) → are-blanks xs ≡ true → well-formed xs ≡ false
+blanks-unformed [] p = refl
+blanks-unformed (b ∷ bs) p =
+    rw (and-left (eqb b blank) (are-blanks bs) p) (blanks-unformed bs (and-right (eqb b blank) (are-blanks bs) p))
 
-not-zero : (b : ℕ) → 1 ≤ b - 48 → not (eqb b 48) ≡ true
-not-zero b h = rw (ne-eqb b 48 (λ q. omega arith))
+-- ## A field is well formed and has the value n just where it is `spell` of n
 
-numeral-snoc :
-    (b : ℕ) (bs : List ℕ) (d : ℕ) → numeral (b ∷ bs) ≡ true → 1 ≤ value-from (b - 48) bs → is-digit d ≡ true →
-    numeral (b ∷ (bs ++ (d ∷ []))) ≡ true
-numeral-snoc b [] d p h e = numeral-of b d [] p (not-zero b h) (digits-snoc [] d refl e)
-numeral-snoc b (c ∷ cs) d p h e =
-    let l = leading b c cs p in
-    numeral-of b c (cs ++ (d ∷ [])) (l .0) (l .1) (digits-snoc (c ∷ cs) d (l .2) e)
+are-all-blanks : (k : ℕ) → are-blanks (replicate k blank) ≡ true
+are-all-blanks zero = refl
+are-all-blanks (suc k) = are-all-blanks k
 
-formed-snoc :
-    (xs : List ℕ) (d : ℕ) → well-formed xs ≡ true → 1 ≤ value xs → is-digit d ≡ true → well-formed (xs ++ (d ∷ [])) ≡ true
-formed-snoc [] d p h e = clash p refl
-formed-snoc (b ∷ bs) d p h e =
-    either (eqb b blank)
-    (λ q. rw q (formed-snoc bs d (rw q at p) (rw q at h) e))
-    (λ q. rw q (numeral-snoc b bs d (rw q at p) (rw zero-add at (rw q at h)) e))
-
-formed-blanks : (k : ℕ) (xs : List ℕ) → well-formed (replicate k blank ++ xs) ≡ well-formed xs
-formed-blanks zero xs = refl
-formed-blanks (suc k) xs = formed-blanks k xs
-
-value-blanks : (k v : ℕ) (xs : List ℕ) → value-from v (replicate k blank ++ xs) ≡ value-from v xs
-value-blanks zero v xs = refl
-value-blanks (suc k) v xs = value-blanks k v xs
+blanks-are-all : (xs : List ℕ) → are-blanks xs ≡ true → xs ≡ replicate (length xs) blank
+blanks-are-all [] p = refl
+blanks-are-all (b ∷ bs) p =
+    ap₂ (λ (x : ℕ) (l : List ℕ). x ∷ l) (eqb-true b 32 (and-left (eqb b blank) (are-blanks bs) p))
+    (blanks-are-all bs (and-right (eqb b blank) (are-blanks bs) p))
 
 -- What is spelled, where it fits its field, is well formed and has the value that was spelled.
 pub record Spelled (n : ℕ) (bytes : List ℕ) : Type 0 where
@@ -162,19 +184,20 @@ pub record Spelled (n : ℕ) (bytes : List ℕ) : Type 0 where
 one-digit : (width n : ℕ) → n < 10 → Spelled n (replicate width blank ++ ((48 + n) ∷ []))
 one-digit width n h =
     let d : is-digit (48 + n) ≡ true = is-a-digit (48 + n) (omega arith) (omega arith) in
-    let at-end : (48 + n) - 48 ≡ n = omega arith in
+    let blanks = are-all-blanks width in
+    let none = value-blanks (replicate width blank) blanks in
     record {
-      formed = formed-blanks width ((48 + n) ∷ []) ∙ rw (not-blank (48 + n) d) d;
-      valued = value-blanks width 0 ((48 + n) ∷ []) ∙ rw (not-blank (48 + n) d) (zero-add ((48 + n) - 48) ∙ at-end);
+      formed = rw (formed-last (replicate width blank) (48 + n), blanks, d);
+      valued = rw (value-last (replicate width blank) (48 + n), none, d) (omega arith);
     }
 
 one-more : (bytes : List ℕ) (n : ℕ) → 10 ≤ n → Spelled (n / 10) bytes → Spelled n (bytes ++ ((48 + n % 10) ∷ []))
 one-more bytes n h s =
     let d : is-digit (48 + n % 10) ≡ true = is-a-digit (48 + n % 10) (omega arith) (omega arith) in
-    let whole : n / 10 * 10 + ((48 + n % 10) - 48) ≡ n = omega arith in
+    let some : leb 1 (n / 10) ≡ true = le-leb 1 (n / 10) (omega arith) in
     record {
-      formed = formed-snoc bytes (48 + n % 10) (s .formed) (omega (arith, s .valued)) d;
-      valued = value-snoc 0 bytes (48 + n % 10) d ∙ ap (λ (k : ℕ). k * 10 + ((48 + n % 10) - 48)) (s .valued) ∙ whole;
+      formed = rw (formed-last bytes (48 + n % 10), s .formed, s .valued, some, d) (or-true (are-blanks bytes));
+      valued = rw (value-last bytes (48 + n % 10), s .valued, d) (omega arith);
     }
 
 room-before : (width n : ℕ) → 10 ≤ n → n < 10 ^ suc width → 1 ≤ width
@@ -192,93 +215,55 @@ spelled-is-field (suc width) n h fits =
     (spelled-is-field width (n / 10) (room-before width n long fits) (omega (arith, pow-suc 10 width)))))
     (λ q. let short : n < 10 = leb-false 10 n q in rw (spell-short width n short) (one-digit width n short))
 
--- ## A field is what its value spells
-
-blanks-shift : (k : ℕ) (xs : List ℕ) → replicate k blank ++ (blank ∷ xs) ≡ replicate (suc k) blank ++ xs
-blanks-shift zero xs = refl
-blanks-shift (suc k) xs = ap (λ (l : List ℕ). blank ∷ l) (blanks-shift k xs)
-
--- digits behind a number above 0 make it longer
-digits-follow :
-    (width v : ℕ) (ds : List ℕ) → 1 ≤ v → all-digits ds ≡ true → spell (width + length ds) (value-from v ds) ≡ spell width v ++ ds
-digits-follow width v [] h p = rw (add-zero width) (sym (append-nil (spell width v)))
-digits-follow width v (d ∷ ds) h p =
-    let e : is-digit d ≡ true = first-digit d ds p in
-    let range = digit-is d e in
-    let more : ℕ = v * 10 + (d - 48) in
-    let front : more / 10 ≡ v = omega arith in
-    let last : 48 + more % 10 ≡ d = omega arith in
-    let along : width + length (d ∷ ds) ≡ suc width + length ds = omega arith in
-    let step : spell (suc width) more ≡ spell width v ++ (d ∷ []) =
-    spell-long width more (omega arith)
-    ∙ ap (λ (k : ℕ). spell width k ++ ((48 + more % 10) ∷ [])) front
-    ∙ ap (λ (k : ℕ). spell width v ++ (k ∷ [])) last in
-    rw (not-blank d e, along)
-    (digits-follow (suc width) more ds (omega arith) (other-digits d ds p)
-    ∙ ap (λ (l : List ℕ). l ++ ds) step
-    ∙ append-assoc (spell width v) (d ∷ []) ds)
-
-numeral-spelled :
-    (k b : ℕ) (bs : List ℕ) → numeral (b ∷ bs) ≡ true →
-    replicate k blank ++ (b ∷ bs) ≡ spell (suc k + length bs) (value-from (b - 48) bs)
-numeral-spelled k b [] p =
-    let range = digit-is b p in
-    let d : 48 + (b - 48) ≡ b = omega arith in
-    sym (rw (add-zero (suc k)) (spell-short k (b - 48) (omega arith) ∙ ap (λ (x : ℕ). replicate k blank ++ (x ∷ [])) d))
-numeral-spelled k b (c ∷ cs) p =
-    let l = leading b c cs p in
-    let range = digit-is b (l .0) in
-    let apart = eqb-false b 48 (not-true (eqb b 48) (l .1)) in
-    let d : 48 + (b - 48) ≡ b = omega arith in
-    let first : spell (suc k) (b - 48) ≡ replicate k blank ++ (b ∷ []) =
-    spell-short k (b - 48) (omega arith) ∙ ap (λ (x : ℕ). replicate k blank ++ (x ∷ [])) d in
-    sym
-    (digits-follow (suc k) (b - 48) (c ∷ cs) (omega arith) (l .2)
-    ∙ ap (λ (m : List ℕ). m ++ (c ∷ cs)) first ∙ append-assoc (replicate k blank) (b ∷ []) (c ∷ cs))
-
-field-after : (k : ℕ) (bytes : List ℕ) → well-formed bytes ≡ true → replicate k blank ++ bytes ≡ spell (k + length bytes) (value bytes)
-field-after k [] p = clash p refl
-field-after k (b ∷ bs) p =
-    let along : k + length (b ∷ bs) ≡ suc k + length bs = omega arith in
-    either (eqb b blank)
-    (λ q.
-    rw (q, along)
-    (ap (λ (x : ℕ). replicate k blank ++ (x ∷ bs)) (eqb-true b 32 q) ∙ blanks-shift k bs
-    ∙ field-after (suc k) bs (rw q at p)))
-    (λ q. rw (q, along, zero-add (b - 48)) (numeral-spelled k b bs (rw q at p)))
+-- what is so for a field of one digit, and with a field above 0 for one that is longer by a digit, is so for every well-formed field
+by-last-digit :
+    (P : List ℕ → Type 0) → ((xs : List ℕ) (d : ℕ) → are-blanks xs ≡ true → is-digit d ≡ true → P (xs ++ d ∷ [])) →
+    ((xs : List ℕ) (d : ℕ) → 1 ≤ value xs → is-digit d ≡ true → P xs → P (xs ++ d ∷ [])) →
+    (bytes : List ℕ) → well-formed bytes ≡ true → P bytes
+by-last-digit P one more = from-last (λ bytes. well-formed bytes ≡ true → P bytes) (λ p. clash p refl) step
+  where
+    step : (xs : List ℕ) (d : ℕ) → (well-formed xs ≡ true → P xs) → well-formed (xs ++ d ∷ []) ≡ true → P (xs ++ d ∷ [])
+    step xs d so-before p =
+        let both : is-digit d && goes-on xs ≡ true = sym (formed-last xs d) ∙ p in
+        let e : is-digit d ≡ true = and-left (is-digit d) (goes-on xs) both in
+        either (are-blanks xs)
+        (λ q. one xs d q e)
+        (λ q.
+        let number : well-formed xs && leb 1 (value xs) ≡ true = rw q at (and-right (is-digit d) (goes-on xs) both) in
+        more xs d (leb-true 1 (value xs) (and-right (well-formed xs) (leb 1 (value xs)) number)) e
+        (so-before (and-left (well-formed xs) (leb 1 (value xs)) number)))
 
 -- a well-formed field is what its value spells at its width
 pub field-is-spelled : (bytes : List ℕ) → well-formed bytes ≡ true → bytes ≡ spell (length bytes) (value bytes)
-field-is-spelled bytes p = rw (zero-add (length bytes)) at (field-after 0 bytes p)
+field-is-spelled = by-last-digit (λ bytes. bytes ≡ spell (length bytes) (value bytes)) one more
+  where
+    one : (xs : List ℕ) (d : ℕ) → are-blanks xs ≡ true → is-digit d ≡ true → xs ++ d ∷ [] ≡ spell (length (xs ++ d ∷ [])) (value (xs ++ d ∷ []))
+    one xs d q e =
+        let range = digit-is d e in
+        let d-is : 48 + (d - 48) ≡ d = omega arith in
+        rw (length-last xs d, value-last xs d, value-blanks xs q, e, zero-add (d - 48), spell-short (length xs) (d - 48) (omega arith), d-is)
+        (ap (λ (l : List ℕ). l ++ d ∷ []) (blanks-are-all xs q))
 
-digits-bound : (v : ℕ) (ds : List ℕ) → all-digits ds ≡ true → value-from v ds < suc v * 10 ^ length ds
-digits-bound v [] p = omega arith
-digits-bound v (d ∷ ds) p =
-    let e : is-digit d ≡ true = first-digit d ds p in
-    let range = digit-is d e in
-    let more : ℕ = v * 10 + (d - 48) in
-    let scale : suc v * 10 * 10 ^ length ds ≡ suc v * 10 ^ suc (length ds) =
-    mul-assoc (suc v) 10 (10 ^ length ds) ∙ ap (λ (k : ℕ). suc v * k) (sym (pow-succ' 10 (length ds))) in
-    rw (not-blank d e, ← scale)
-    (lt-of-lt-of-le (digits-bound more ds (other-digits d ds p))
-    (mul-le-mul-right {m = suc more} {n = suc v * 10} (10 ^ length ds) (omega arith)))
-
-numeral-bound : (b : ℕ) (bs : List ℕ) → numeral (b ∷ bs) ≡ true → value-from (b - 48) bs < 10 ^ length (b ∷ bs)
-numeral-bound b [] p = let range = digit-is b p in omega arith
-numeral-bound b (c ∷ cs) p =
-    let l = leading b c cs p in
-    let range = digit-is b (l .0) in
-    rw (pow-succ' 10 (length (c ∷ cs)))
-    (lt-of-lt-of-le (digits-bound (b - 48) (c ∷ cs) (l .2))
-    (mul-le-mul-right {m = suc (b - 48)} {n = 10} (10 ^ length (c ∷ cs)) (omega arith)))
+    more : (xs : List ℕ) (d : ℕ) → 1 ≤ value xs → is-digit d ≡ true → xs ≡ spell (length xs) (value xs) →
+        xs ++ d ∷ [] ≡ spell (length (xs ++ d ∷ [])) (value (xs ++ d ∷ []))
+    more xs d h e s =
+        let range = digit-is d e in
+        let next : ℕ = value xs * 10 + (d - 48) in
+        let front : next / 10 ≡ value xs = omega arith in
+        let last : 48 + next % 10 ≡ d = omega arith in
+        rw (length-last xs d, value-last xs d, e, spell-long (length xs) next (omega arith), front, last) (ap (λ (l : List ℕ). l ++ d ∷ []) s)
 
 -- and the value is one that fits the width
 pub value-bound : (bytes : List ℕ) → well-formed bytes ≡ true → value bytes < 10 ^ length bytes
-value-bound [] p = clash p refl
-value-bound (b ∷ bs) p =
-    either (eqb b blank)
-    (λ q. rw q (omega (arith, value-bound bs (rw q at p), pow-suc 10 (length bs))))
-    (λ q. rw (q, zero-add (b - 48)) (numeral-bound b bs (rw q at p)))
+value-bound = by-last-digit (λ bytes. value bytes < 10 ^ length bytes) one (λ xs d h. more xs d)
+  where
+    more : (xs : List ℕ) (d : ℕ) → is-digit d ≡ true → value xs < 10 ^ length xs → value (xs ++ d ∷ []) < 10 ^ length (xs ++ d ∷ [])
+    more xs d e fits =
+        let range = digit-is d e in
+        rw (value-last xs d, e, length-last xs d, pow-suc 10 (length xs)) (omega arith)
+
+    one : (xs : List ℕ) (d : ℕ) → are-blanks xs ≡ true → is-digit d ≡ true → value (xs ++ d ∷ []) < 10 ^ length (xs ++ d ∷ [])
+    one xs d q e = more xs d e (omega (arith, value-blanks xs q, one-le-pow (length xs) 10 (omega arith)))
 
 -- a field is well formed and has the value n just where it is `spell` of n at its width
 pub just-spelled :
@@ -286,15 +271,15 @@ pub just-spelled :
     ((length bytes ≡ width) × (well-formed bytes ≡ true) × (value bytes ≡ n)) ↔ ((1 ≤ width) × (n < 10 ^ width) × (bytes ≡ spell width n))
 just-spelled width n bytes = (there, back)
   where
-    positive : (bs : List ℕ) → well-formed bs ≡ true → 1 ≤ length bs
-    positive [] p = clash p refl
-    positive (b ∷ bs) p = omega arith
+    filled : (bs : List ℕ) → well-formed bs ≡ true → 1 ≤ length bs
+    filled [] p = clash p refl
+    filled (b ∷ bs) p = omega arith
 
     there :
         (length bytes ≡ width) × (well-formed bytes ≡ true) × (value bytes ≡ n) →
         (1 ≤ width) × (n < 10 ^ width) × (bytes ≡ spell width n)
     there h =
-        rw (← (h .0), ← (h .2)) (positive bytes (h .1), value-bound bytes (h .1), field-is-spelled bytes (h .1))
+        rw (← (h .0), ← (h .2)) (filled bytes (h .1), value-bound bytes (h .1), field-is-spelled bytes (h .1))
 
     back :
         (1 ≤ width) × (n < 10 ^ width) × (bytes ≡ spell width n) →
@@ -305,104 +290,78 @@ just-spelled width n bytes = (there, back)
 
 -- ## Reading from the left, with the value so far
 
-scan-broken : (bytes : List ℕ) → scan-from Broken bytes ≡ Broken
-scan-broken [] = refl
-scan-broken (b ∷ bs) = scan-broken bs
+-- ten times the value so far, plus the digit, is the value by places
+pub one-column : (columns : List ℕ) (byte : ℕ) → scan-byte (reached columns) byte ≡ reached (columns ++ byte ∷ [])
+one-column columns byte =
+    rw (all-last (λ b. eqb b blank) columns byte, formed-last columns byte, value-last columns byte)
+    (either (are-blanks columns)
+    (λ p.
+    rw (p, value-blanks columns p)
+    (either (is-digit byte) (λ e. rw (e, zero-add (byte - 48))) (λ e. rw e)))
+    (λ p.
+    either (well-formed columns)
+    (λ q. rw (p, q) (either (is-digit byte) (λ e. rw (e, and-true (leb 1 (value columns)))) (λ e. rw (e, and-false (leb 1 (value columns))))))
+    (λ q. rw (p, q, and-false (is-digit byte)))))
 
-abbrev number-if : Bool → ℕ → Field
-number-if b n = if b then Field.Number n else Field.Malformed
+-- so the columns, read one after the other, lead where their digits and places say
+scanned-reached : (columns : List ℕ) → scanned columns ≡ reached columns
+scanned-reached = from-last (λ columns. scanned columns ≡ reached columns) refl one-more-read
+  where
+    one-more-read : (xs : List ℕ) (b : ℕ) → scanned xs ≡ reached xs → scanned (xs ++ b ∷ []) ≡ reached (xs ++ b ∷ [])
+    one-more-read xs b h = foldl-append scan-byte Blanks xs (b ∷ []) ∙ ap (λ (s : Scan). scan-byte s b) h ∙ one-column xs b
 
-scan-digits : (v : ℕ) (bs : List ℕ) → 1 ≤ v → finish (scan-from (Digits v) bs) ≡ number-if (all-digits bs) (value-from v bs)
-scan-digits v [] h = refl
-scan-digits v (b ∷ bs) h =
-    either (is-digit b)
-    (λ e. rw (le-leb 1 v h, e, not-blank b e) (scan-digits (v * 10 + (b - 48)) bs (omega arith)))
-    (λ e. rw (le-leb 1 v h, e) (ap finish (scan-broken bs)))
+-- what begins with columns that are neither blanks nor a field is no field
+stays-broken : (front rest : List ℕ) → are-blanks front ≡ false → well-formed front ≡ false → well-formed (front ++ rest) ≡ false
+stays-broken front [] p q = rw (append-nil front) q
+stays-broken front (b ∷ bs) p q =
+    rw (← (append-assoc front (b ∷ []) bs))
+    (stays-broken (front ++ b ∷ []) bs (rw (all-last (λ c. eqb c blank) front b, p))
+    (rw (formed-last front b, p, q) (and-false (is-digit b))))
 
-scan-numeral :
-    (b : ℕ) (bs : List ℕ) → is-digit b ≡ true →
-    finish (scan-from (Digits (b - 48)) bs) ≡ number-if (numeral (b ∷ bs)) (value-from (b - 48) bs)
-scan-numeral b [] e = rw e
-scan-numeral b (c ∷ cs) e =
-    let range = digit-is b e in
-    either (eqb b 48)
+-- so after k columns of an accepted field the value so far is that of the digits among them
+pub reached-value : (field : List ℕ) (k : ℕ) → well-formed field ≡ true → so-far (reached (take k field)) ≡ value (take k field)
+reached-value field k formed =
+    let front = take k field in
+    either (are-blanks front)
+    (λ p. rw p (sym (value-blanks front p)))
+    (λ p.
+    either (well-formed front)
+    (λ q. rw (p, q))
+    (λ q. clash formed (rw (take-append-drop k field) at (stays-broken front (drop k field) p q))))
+
+reached-field : (field : List ℕ) → finish (reached field) ≡ (if well-formed field then Field.Number (value field) else Field.Malformed)
+reached-field field =
+    either (are-blanks field)
+    (λ p. rw (p, blanks-unformed field p))
+    (λ p. either (well-formed field) (λ q. rw (p, q)) (λ q. rw (p, q)))
+
+-- the value of eight columns leaves room for one digit more in 32 bits
+pub reached-fits : (columns : List ℕ) → length columns ≤ 8 → so-far (reached columns) * 10 + 9 ≤ 4294967295
+reached-fits columns h =
+    either (are-blanks columns)
+    (λ p. rw p (omega arith))
+    (λ p.
+    either (well-formed columns)
     (λ q.
-    let none : leb 1 (b - 48) ≡ false = lt-leb 1 (b - 48) (omega (arith, eqb-true b 48 q)) in
-    rw (e, q, none) (ap finish (scan-broken cs)))
-    (λ q.
-    let apart = eqb-false b 48 q in
-    rw (e, q) (scan-digits (b - 48) (c ∷ cs) (omega arith)))
+    let most : 10 ^ length columns ≤ 10 ^ 8 = pow-le-pow-right (omega arith) h in
+    rw (p, q) (omega (arith, value-bound columns q)))
+    (λ q. rw (p, q) (omega arith)))
 
-not-numeral : (b : ℕ) (bs : List ℕ) → is-digit b ≡ false → numeral (b ∷ bs) ≡ false
-not-numeral b [] e = e
-not-numeral b (c ∷ cs) e = rw e
-
-scan-field : (bytes : List ℕ) → finish (scan-from Blanks bytes) ≡ number-if (well-formed bytes) (value bytes)
-scan-field [] = refl
-scan-field (b ∷ bs) =
-    either (eqb b blank)
-    (λ q. rw q (scan-field bs))
-    (λ q.
-    either (is-digit b)
-    (λ e. rw (q, e, zero-add (b - 48)) (scan-numeral b bs e))
-    (λ e. rw (q, e, not-numeral b bs e) (ap finish (scan-broken bs))))
+pub request-4 : Request4
+request-4 =
+    record {
+      by-places = scanned-reached;
+      digits-read = digits-read;
+      over-blanks = λ field k formed p. digits-read field k formed ∙ value-blanks (take k field) p;
+      as-before = λ field. ap finish (scanned-reached field) ∙ reached-field field;
+    }
+  where
+    digits-read : (field : List ℕ) (k : ℕ) → well-formed field ≡ true → so-far (scanned (take k field)) ≡ value (take k field)
+    digits-read field k formed = ap so-far (scanned-reached (take k field)) ∙ reached-value field k formed
 
 -- what the code reads is what the field holds
-pub scan-is-field : (bytes : List ℕ) → length bytes ≤ widest → finish (scan-from Blanks bytes) ≡ field-of bytes
-scan-is-field bytes h = rw (le-leb (length bytes) 9 h) (scan-field bytes)
+pub reached-is-field : (bytes : List ℕ) → length bytes ≤ widest → finish (reached bytes) ≡ field-of bytes
+reached-is-field bytes h = rw (le-leb (length bytes) 9 h) (reached-field bytes)
 
 pub too-wide : (bytes : List ℕ) → widest < length bytes → field-of bytes ≡ Field.Malformed
 too-wide bytes h = rw (lt-leb (length bytes) 9 h)
-
-digits-so-far :
-    (v : ℕ) (ds rest : List ℕ) → 1 ≤ v → all-digits (ds ++ rest) ≡ true → so-far (scan-from (Digits v) ds) ≡ value-from v ds
-digits-so-far v [] rest h p = refl
-digits-so-far v (d ∷ ds) rest h p =
-    let e : is-digit d ≡ true = first-digit d (ds ++ rest) p in
-    rw (le-leb 1 v h, e, not-blank d e)
-    (digits-so-far (v * 10 + (d - 48)) ds rest (omega arith) (other-digits d (ds ++ rest) p))
-
-numeral-so-far :
-    (b : ℕ) (ds rest : List ℕ) → is-digit b ≡ true → numeral (b ∷ (ds ++ rest)) ≡ true →
-    so-far (scan-from (Digits (b - 48)) ds) ≡ value-from (b - 48) ds
-numeral-so-far b [] rest e p = refl
-numeral-so-far b (d ∷ ds) rest e p =
-    let l = leading b d (ds ++ rest) p in
-    let range = digit-is b e in
-    let apart = eqb-false b 48 (not-true (eqb b 48) (l .1)) in
-    digits-so-far (b - 48) (d ∷ ds) rest (omega arith) (l .2)
-
--- after each column of a well-formed field, the value so far is that of the digits read, 0 over blanks
-pub running : (front rest : List ℕ) → well-formed (front ++ rest) ≡ true → so-far (scan-from Blanks front) ≡ value front
-running [] rest p = refl
-running (b ∷ bs) rest p =
-    either (eqb b blank)
-    (λ q. rw q (running bs rest (rw q at p)))
-    (λ q.
-    either (is-digit b)
-    (λ e. rw (q, zero-add (b - 48), e) (numeral-so-far b bs rest e (rw q at p)))
-    (λ e. clash (rw q at p) (not-numeral b (bs ++ rest) e)))
-
--- the value so far fits the columns read
-pub so-far-bound : (scan : Scan) (k b : ℕ) → so-far scan < 10 ^ k → so-far (scan-byte scan b) < 10 ^ suc k
-so-far-bound Blanks k b fits =
-    either (eqb b blank)
-    (λ q. rw q (omega (arith, pow-suc 10 k)))
-    (λ q.
-    either (is-digit b)
-    (λ e. let range = digit-is b e in rw (q, e) (omega (arith, pow-suc 10 k)))
-    (λ e. rw (q, e) (omega (arith, pow-suc 10 k))))
-so-far-bound (Digits v) k b fits =
-    either (leb 1 v)
-    (λ q.
-    either (is-digit b)
-    (λ e. let range = digit-is b e in rw (q, e) (omega (arith, pow-suc 10 k)))
-    (λ e. rw (q, e) (omega (arith, pow-suc 10 k))))
-    (λ q. rw q (omega (arith, pow-suc 10 k)))
-so-far-bound Broken k b fits = omega (arith, pow-suc 10 k)
-
--- one column more
-pub scan-column :
-    (scan : Scan) (bytes : List ℕ) (i : ℕ) → i < length bytes →
-    scan-from scan (drop i bytes) ≡ scan-from (scan-byte scan (getD bytes i 0)) (drop (i + 1) bytes)
-scan-column scan bytes i h = rw (add-one i, drop-cons bytes i 0 h)

@@ -1,6 +1,6 @@
 -- Fields of columns: decimal, right-justified, filled with blanks, without leading zeros.
 -- Assumes nothing.
-use Prim.Native.Nat.{ℕ, zero, suc, _+_, _-_, _*_, _/_, _%_}
+use Prim.Native.Nat.{ℕ, zero, suc, _+_, _-_, _*_, _/_, _%_, _^_}
 use mathlib.Core.Bool.{Bool, false, not, _&&_}
 use mathlib.Core.List.{List, [], _∷_, _++_, reverse}
 use lib.Dec.{eqb, leb}
@@ -32,20 +32,20 @@ abbrev pub well-formed : List ℕ → Bool
 well-formed [] = false
 well-formed (byte ∷ bytes) = if eqb byte blank then well-formed bytes else numeral (byte ∷ bytes)
 
-abbrev pub value-from : ℕ → List ℕ → ℕ
-value-from so-far [] = so-far
-value-from so-far (byte ∷ bytes) =
-    if eqb byte blank then value-from so-far bytes else value-from (so-far * 10 + (byte - 48)) bytes
+-- what a column counts: its digit, and a blank nothing
+abbrev pub digit : ℕ → ℕ
+digit byte = if is-digit byte then byte - 48 else 0
 
--- the number that a well-formed field writes
+-- the value of the digits among some columns, by their places: each digit times ten for every column behind it
 abbrev pub value : List ℕ → ℕ
-value bytes = value-from 0 bytes
+value [] = 0
+value (byte ∷ bytes) = digit byte * 10 ^ length bytes + value bytes
 
--- the widest field that the code reads: nine digits fit 32 bits
+-- the widest field that the code reads, since nine digits fit 32 bits; no format has a wider one
 abbrev pub widest : ℕ
 widest = 9
 
--- what a field holds
+-- what a field holds; one wider than that is malformed for the code's sake
 abbrev pub field-of : List ℕ → Field
 field-of bytes =
     if leb (length bytes) widest && well-formed bytes then Field.Number (value bytes) else Field.Malformed

@@ -1,35 +1,58 @@
--- How the code reads a field: from the left, with the value so far. Nothing here has to be believed: proofs/Fields.antt shows that
--- it comes to `field-of`.
+-- How the code reads a field, from the left with the value so far, and what is claimed of that value.
 -- Assumes nothing.
 use Prim.Native.Nat.{ℕ, _+_, _-_, _*_}
-use mathlib.Core.List.{List, [], _∷_}
+use mathlib.Core.Path.{_≡_}
+use mathlib.Core.Bool.{Bool, true, _&&_}
+use mathlib.Core.List.{List, foldl}
 use lib.Dec.{eqb, leb}
-use mathlib.Core.Bool.{_&&_}
+use lib.ListN.{take}
 use Rattle.base.specs.Logic.{if_then_else_}
+use Rattle.base.specs.Lists.{all}
 use Rattle.fields.specs.declared.Field.{Field}
 use Rattle.fields.specs.declared.Scan.{Scan}
 use Rattle.fields.specs.declared.Scan.the-variants.{Blanks, Digits, Broken}
-use Rattle.fields.specs.Field.{blank, is-digit}
+use Rattle.fields.specs.Field.{blank, is-digit, well-formed, value}
 
--- ten times the value so far, plus the digit; after a zero comes nothing
+-- one column more: ten times the value so far, plus the digit; after a zero comes nothing
 abbrev pub scan-byte : Scan → ℕ → Scan
 scan-byte Blanks byte =
     if eqb byte blank then Blanks else if is-digit byte then Digits (byte - 48) else Broken
-scan-byte (Digits value) byte =
-    if leb 1 value && is-digit byte then Digits (value * 10 + (byte - 48)) else Broken
+scan-byte (Digits n) byte =
+    if leb 1 n && is-digit byte then Digits (n * 10 + (byte - 48)) else Broken
 scan-byte Broken byte = Broken
 
-abbrev pub scan-from : Scan → List ℕ → Scan
-scan-from scan [] = scan
-scan-from scan (byte ∷ bytes) = scan-from (scan-byte scan byte) bytes
+-- columns read from the left, one after the other
+abbrev pub scanned : List ℕ → Scan
+scanned columns = foldl scan-byte Blanks columns
 
--- the value so far, 0 over blanks
+-- the value so far
 abbrev pub so-far : Scan → ℕ
 so-far Blanks = 0
-so-far (Digits value) = value
+so-far (Digits n) = n
 so-far Broken = 0
 
 abbrev pub finish : Scan → Field
 finish Blanks = Field.Malformed
-finish (Digits value) = Field.Number value
+finish (Digits n) = Field.Number n
 finish Broken = Field.Malformed
+
+abbrev pub are-blanks : List ℕ → Bool
+are-blanks columns = all (λ byte. eqb byte blank) columns
+
+-- how far a field is read after some columns, by the digits among them and their places; the invariant of the loop of `read_field`
+abbrev pub reached : List ℕ → Scan
+reached columns =
+    if are-blanks columns then Blanks else if well-formed columns then Digits (value columns) else Broken
+
+-- Request 4 of document 02, for any width: "a field is to be read from the left with the value so far, ten times it plus the digit".
+pub record Request4 : Type 0 where
+  -- so read, any columns lead where their digits and places say
+  pub by-places : (columns : List ℕ) → scanned columns ≡ reached columns
+  -- "After each column of an accepted field the value so far is that of the digits read,
+  pub digits-read : (field : List ℕ) (k : ℕ) → well-formed field ≡ true → so-far (scanned (take k field)) ≡ value (take k field)
+  -- 0 over blanks
+  pub over-blanks :
+      (field : List ℕ) (k : ℕ) → well-formed field ≡ true → are-blanks (take k field) ≡ true → so-far (scanned (take k field)) ≡ 0
+  -- ... Accepted fields, values and refusals are those of before."
+  pub as-before :
+      (field : List ℕ) → finish (scanned field) ≡ (if well-formed field then Field.Number (value field) else Field.Malformed)

@@ -1,5 +1,5 @@
 // Fields of columns: reading them, and putting numbers into them.
-ghost use Prim.Native.Nat.{_<_};
+ghost use Prim.Native.Nat.{_+_, _*_, _≤_};
 ghost use mathlib.Core.Path.{_≡_};
 ghost use lib.ListN.{length, replicate};
 ghost use Rattle.fields.specs.Field.{blank, is-digit, field-of, spell};
@@ -43,9 +43,9 @@ fn first_column(byte: u8) -> Scan
     }
 }
 
-// A column behind digits. Zero is one digit, so nothing may follow it.
+// A column behind digits, where one digit more fits 32 bits. Zero is one digit, so nothing may follow it.
 fn next_column(value: u32, byte: u8) -> Scan
-    requires { ⌜ value < 100000000 ⌝ }
+    requires { ⌜ value * 10 + 9 ≤ 4294967295 ⌝ }
     ensures { λ r. ⌜ r ≡ scan-byte (Scan.Digits value) byte ⌝ }
 {
     if value == 0 {
@@ -59,7 +59,7 @@ fn next_column(value: u32, byte: u8) -> Scan
 }
 
 fn scan_column(scan: Scan, byte: u8) -> Scan
-    requires { ⌜ so-far scan < 100000000 ⌝ }
+    requires { ⌜ so-far scan * 10 + 9 ≤ 4294967295 ⌝ }
     ensures { λ r. ⌜ r ≡ scan-byte scan byte ⌝ }
 {
     match scan {
@@ -79,7 +79,7 @@ fn finished(scan: Scan) -> Field
     }
 }
 
-// The number in a field of at most nine columns, read from the left with the value so far.
+// The number in a field of at most nine columns, read from the left: the value so far is that of the digits read, 0 over blanks.
 pub fn read_field(bytes: &[u8]) -> Field
     ensures { λ r. ⌜ r ≡ field-of (now (bytes .entry)) ⌝ }
 {

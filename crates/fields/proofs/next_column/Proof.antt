@@ -27,7 +27,9 @@ cast-t8 : tie.Need-cast-t8
 cast-t8 c = search needs
 
 add-t9 : tie.Need-add-t9
-add-t9 c = search needs
+add-t9 c =
+    let digit = digit-is (c .before .before .before .args .byte) (sym (c .before .is-digit .ensures) ∙ c .if2 .taken) in
+    search needs
 
 returns-2 : tie.Need-returns-2
 returns-2 c =

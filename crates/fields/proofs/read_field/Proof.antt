@@ -1,23 +1,21 @@
--- `read_field` meets its contract. The loop's invariant: reading on from here comes to what reading the whole field does, and the value
--- so far fits the columns read. Assumes nothing.
-use Prim.Native.Nat.{ℕ, _+_, _≤_, _<_, _-_, _^_}
-use mathlib.Core.List.{List}
+-- `read_field` meets its contract. The loop's invariant: how far the field is read is what the digits among the columns read, and their
+-- places, say; for an accepted field, that the value so far is theirs (`Fields.reached-value`). Assumes nothing.
+use Prim.Native.Nat.{_+_, _≤_, _-_}
+use mathlib.Core.List.{[], _∷_, _++_}
 use mathlib.Core.Path.{_≡_, refl, sym, ap, _∙_}
 use native.Mathlib.Omega.{arith}
 use native.Mathlib.Numerals.{add-one}
-use native.Mathlib.Nat.{pow-le-pow-right, lt-of-lt-of-le}
 use borrow.Author.Needs.{needs}
-use lib.ListN.{length, getD, drop, drop-of-length-le}
+use lib.ListN.{length, getD, take}
+use lib.Seq.{take-suc, take-all, length-take-le}
 use Rattle.fields.specs.declared.Scan.{Scan}
-use Rattle.fields.specs.declared.Scan.the-variants.{Blanks}
-use Rattle.fields.specs.Scan.{scan-from, so-far, finish}
-use Rattle.fields.proofs.Fields.{scan-is-field, too-wide, so-far-bound, scan-column}
+use Rattle.fields.specs.Scan.{scan-byte, finish, reached}
+use Rattle.fields.proofs.Fields.{one-column, reached-fits, reached-is-field, too-wide}
 use Rattle.fields.proofs.read_field.Statement.{statement}
 use Rattle.fields.proofs.read_field.Tie as tie
 
 abbrev Inv-loop : tie.InvT-loop
-Inv-loop bytes scan₀ i₀ scan i =
-    (i ≤ length bytes) × (length bytes ≤ 9) × (scan-from scan (drop i bytes) ≡ scan-from Blanks bytes) × (so-far scan < 10 ^ i)
+Inv-loop bytes scan₀ i₀ scan i = (i ≤ length bytes) × (length bytes ≤ 9) × (scan ≡ reached (take i bytes))
 
 abbrev μ-loop : tie.MeasureT-loop
 μ-loop bytes scan₀ i₀ scan i = length bytes - i
@@ -26,14 +24,16 @@ returns : tie.Need-returns Inv-loop μ-loop
 returns c = sym (too-wide (c .before .before .args .bytes .now) (c .if1 .taken))
 
 loop-holds : tie.Need-loop-holds Inv-loop μ-loop
-loop-holds c = (omega arith, omega arith, refl, omega arith)
+loop-holds c = (omega arith, omega arith, refl)
 
 shared-slice-read-scan-column : tie.Need-shared-slice-read-scan-column Inv-loop μ-loop
 shared-slice-read-scan-column c = omega arith
 
 scan-column-requires : tie.Need-scan-column-requires Inv-loop μ-loop
 scan-column-requires c κs =
-    lt-of-lt-of-le (c .before .before .loop .inv .3) (pow-le-pow-right {n = 10} (omega arith) {j = 8} (omega arith))
+    let at = c .before .before .loop in
+    let bytes = c .before .before .before .before .before .args .bytes .now in
+    rw (at .inv .2) (reached-fits (take (at .i) bytes) (rw (length-take-le (at .i) bytes (omega arith)) (omega arith)))
 
 add-i : tie.Need-add-i Inv-loop μ-loop
 add-i c = omega arith
@@ -45,11 +45,12 @@ loop-again : tie.Need-loop-again Inv-loop μ-loop
 loop-again c =
     let bytes = c .before .before .before .before .before .before .args .bytes .now in
     let at = c .before .before .before .loop in
-    let more : at .i < length bytes = omega arith in (
+    let byte = getD bytes (at .i) 0 in
+    let columns : take (at .i + 1) bytes ≡ take (at .i) bytes ++ byte ∷ [] = rw add-one (take-suc bytes (at .i) 0 (omega arith)) in (
       omega arith,
       omega arith,
-      ap (λ (s : Scan). scan-from s (drop (at .i + 1) bytes)) (c .scan-column .ensures) ∙ sym (scan-column (at .scan) bytes (at .i) more) ∙ at .inv .2,
-      rw (add-one, c .scan-column .ensures) (so-far-bound (at .scan) (at .i) (getD bytes (at .i) 0) (at .inv .3)),
+      c .scan-column .ensures ∙ ap (λ (s : Scan). scan-byte s byte) (at .inv .2) ∙ one-column (take (at .i) bytes) byte
+          ∙ ap reached (sym columns),
     )
 
 finished-requires : tie.Need-finished-requires Inv-loop μ-loop
@@ -59,9 +60,7 @@ returns-2 : tie.Need-returns-2 Inv-loop μ-loop
 returns-2 c =
     let bytes = c .before .before .before .before .before .args .bytes .now in
     let at = c .before .before .loop in
-    let done : length bytes ≤ at .i = omega arith in
-    c .finished .ensures ∙ ap (λ (l : List ℕ). finish (scan-from (at .scan) l)) (sym (drop-of-length-le bytes done))
-    ∙ ap finish (at .inv .2) ∙ scan-is-field bytes (at .inv .1)
+    c .finished .ensures ∙ ap finish (at .inv .2 ∙ ap reached (take-all (at .i) bytes (omega arith))) ∙ reached-is-field bytes (at .inv .1)
 
 pub read-field-spec : {M : Type 1} → statement M
 read-field-spec =
