@@ -62,7 +62,9 @@ all-append p (x ∷ xs) ys h k =
 pub all-last {ℓ} : {A : Type ℓ} (p : A → Bool) (xs : List A) (x : A) → all p (xs ++ x ∷ []) ≡ all p xs && p x
 unfolding agree
 all-last p [] x = and-true (p x)
-all-last p (y ∷ ys) x = ap (λ (b : Bool). p y && b) (all-last p ys x) ∙ by-cases 3 (λ a b c. a && (b && c)) (λ a b c. (a && b) && c) refl (p y) (all p ys) (p x)
+all-last p (y ∷ ys) x =
+    ap (λ (b : Bool). p y && b) (all-last p ys x)
+    ∙ by-cases 3 (λ a b c. a && (b && c)) (λ a b c. (a && b) && c) refl (p y) (all p ys) (p x)
 
 pub all-map : {A B : Type 0} (p : B → Bool) (f : A → B) (xs : List A) → all p (map f xs) ≡ all (λ x. p (f x)) xs
 all-map p f [] = refl

@@ -138,7 +138,8 @@ number-last : (b : ℕ) (bs : List ℕ) (d : ℕ) → numeral (b ∷ (bs ++ d �
 unfolding agree
 number-last b bs d =
     more-digits bs ∙ ap (λ (p : Bool). is-digit b && (not (eqb b 48) && p)) (all-last is-digit bs d)
-    ∙ by-cases 4 (λ p q r t. p && (q && (r && t))) (λ p q r t. t && (p && (q && r))) refl (is-digit b) (not (eqb b 48)) (all-digits bs) (is-digit d)
+    ∙ by-cases 4 (λ p q r t. p && (q && (r && t))) (λ p q r t. t && (p && (q && r))) refl
+    (is-digit b) (not (eqb b 48)) (all-digits bs) (is-digit d)
     ∙ ap (λ (p : Bool). is-digit d && p) (sym (positive b bs))
   where
     more-digits : (cs : List ℕ) → numeral (b ∷ (cs ++ d ∷ [])) ≡ is-digit b && (not (eqb b 48) && all-digits (cs ++ d ∷ []))

@@ -18,6 +18,7 @@ no-fields : (well-formed (52 ∷ 32 ∷ 55 ∷ []) ≡ false) × (well-formed (4
 no-fields = (refl, refl)
 
 -- the value so far after each column of "   407", from none to all six, and the value by places
-running : (map (λ k. so-far (scanned (take k (spell 6 407)))) (range 0 7) ≡ 0 ∷ 0 ∷ 0 ∷ 0 ∷ 4 ∷ 40 ∷ 407 ∷ []) × (value (spell 6 407) ≡ 407)
+running :
+    (map (λ k. so-far (scanned (take k (spell 6 407)))) (range 0 7) ≡ 0 ∷ 0 ∷ 0 ∷ 0 ∷ 4 ∷ 40 ∷ 407 ∷ []) × (value (spell 6 407) ≡ 407)
 unfolding spell
 running = (refl, refl)
