@@ -110,7 +110,7 @@ value-blanks [] p = refl
 value-blanks (b ∷ bs) p =
     value-blank b bs (and-left (eqb b blank) (are-blanks bs) p) ∙ value-blanks bs (and-right (eqb b blank) (are-blanks bs) p)
 
--- a number that starts with 1 to 9 is above 0
+-- what starts with 1 to 9 is above 0
 above-zero : (b : ℕ) (bs : List ℕ) → is-digit b ≡ true → eqb b 48 ≡ false → 1 ≤ value (b ∷ bs)
 above-zero b bs e q =
     let range = digit-is b e in
@@ -118,6 +118,7 @@ above-zero b bs e q =
     let first : 1 ≤ (b - 48) * 10 ^ length bs = one-le-mul (omega arith) (one-le-pow (length bs) 10 (omega arith)) in
     rw e (omega arith)
 
+-- a number is above 0 just where it starts with 1 to 9
 positive : (b : ℕ) (bs : List ℕ) → numeral (b ∷ bs) && leb 1 (value (b ∷ bs)) ≡ is-digit b && (not (eqb b 48) && all-digits bs)
 positive b [] =
     either (is-digit b)
@@ -134,6 +135,7 @@ positive b (c ∷ cs) =
     (λ q. rw (le-leb 1 (value (b ∷ (c ∷ cs))) (above-zero b (c ∷ cs) e q), e, q) (and-true (all-digits (c ∷ cs)))))
     (λ e. rw e)
 
+-- a number of several digits: a digit behind a number above 0
 number-last : (b : ℕ) (bs : List ℕ) (d : ℕ) → numeral (b ∷ (bs ++ d ∷ [])) ≡ is-digit d && (numeral (b ∷ bs) && leb 1 (value (b ∷ bs)))
 unfolding agree
 number-last b bs d =
@@ -146,10 +148,11 @@ number-last b bs d =
     more-digits [] = refl
     more-digits (c ∷ cs) = refl
 
--- a digit may follow blanks, and a number above 0
+-- a digit may follow on blanks, and on a number above 0
 abbrev goes-on : List ℕ → Bool
 goes-on xs = are-blanks xs || (well-formed xs && leb 1 (value xs))
 
+-- a well-formed field: a digit behind what goes on
 formed-last : (xs : List ℕ) (d : ℕ) → well-formed (xs ++ d ∷ []) ≡ is-digit d && goes-on xs
 formed-last [] d =
     either (eqb d blank)
