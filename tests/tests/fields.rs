@@ -55,7 +55,7 @@ fn every_activity(subject: &mut dyn Calls) -> Result<(), String> {
 
 #[test]
 fn over_the_bytes_that_matter() {
-    // 1 to 9 followed by up to five digits, of 1, 4 and 9, then of 0, 1, 4 and 9; a step may be 0, and is below 32 or refused.
+    // A run number starts with 1, 4 or 9 and goes on with up to five of 0, 1, 4 and 9; a step is accepted below 32, 0 too.
     let numbers: usize = (0..6).map(|more| 3 * 4usize.pow(more)).sum();
     let below_32 = [0, 1, 4, 9, 10, 11, 14, 19].len();
     assert_eq!(every_field(&mut Archive).unwrap(), numbers + below_32);

@@ -36,7 +36,7 @@ well-formed (byte ∷ bytes) = if eqb byte blank then well-formed bytes else num
 abbrev pub digit : ℕ → ℕ
 digit byte = if is-digit byte then byte - 48 else 0
 
--- the value of the digits among some columns, by their places: each digit times ten for every column behind it
+-- the value of the digits among some columns, by their places: a digit counts ten times as much for each column behind it
 abbrev pub value : List ℕ → ℕ
 value [] = 0
 value (byte ∷ bytes) = digit byte * 10 ^ length bytes + value bytes

@@ -25,7 +25,7 @@ scan-byte Broken byte = Broken
 abbrev pub scanned : List ℕ → Scan
 scanned columns = foldl scan-byte Blanks columns
 
--- the value so far
+-- the value so far; columns that begin no field have none
 abbrev pub so-far : Scan → ℕ
 so-far Blanks = 0
 so-far (Digits n) = n
@@ -44,15 +44,16 @@ abbrev pub reached : List ℕ → Scan
 reached columns =
     if are-blanks columns then Blanks else if well-formed columns then Digits (value columns) else Broken
 
--- Request 4 of document 02, for any width: "a field is to be read from the left with the value so far, ten times it plus the digit".
+-- Request 4 of document 02, for fields of any width.
 pub record Request4 : Type 0 where
-  -- so read, any columns lead where their digits and places say
+  -- "a field is to be read from the left with the value so far, ten times it plus the digit": so read, any columns lead where their
+  -- digits and places say
   pub by-places : (columns : List ℕ) → scanned columns ≡ reached columns
-  -- "After each column of an accepted field the value so far is that of the digits read,
+  -- "After each column of an accepted field the value so far is that of the digits read"
   pub digits-read : (field : List ℕ) (k : ℕ) → well-formed field ≡ true → so-far (scanned (take k field)) ≡ value (take k field)
-  -- 0 over blanks
+  -- "0 over blanks"
   pub over-blanks :
       (field : List ℕ) (k : ℕ) → well-formed field ≡ true → are-blanks (take k field) ≡ true → so-far (scanned (take k field)) ≡ 0
-  -- ... Accepted fields, values and refusals are those of before."
+  -- "Accepted fields, values and refusals are those of before": accepted are the well-formed ones, each with its value
   pub as-before :
       (field : List ℕ) → finish (scanned field) ≡ (if well-formed field then Field.Number (value field) else Field.Malformed)

@@ -21,7 +21,7 @@ abbrev μ-loop : tie.MeasureT-loop
 μ-loop bytes scan₀ i₀ scan i = length bytes - i
 
 returns : tie.Need-returns Inv-loop μ-loop
-returns c = sym (too-wide (c .before .before .args .bytes .now) (c .if1 .taken))
+returns c = sym (too-wide (c .before .before .args .bytes .now) (omega arith))
 
 loop-holds : tie.Need-loop-holds Inv-loop μ-loop
 loop-holds c = (omega arith, omega arith, refl)
