@@ -6,7 +6,7 @@ use native.Mathlib.Decide.{ℕ-discrete}
 use native.Mathlib.Nat.{zero-add, add-zero, add-suc, suc-add, not-suc-le-zero, le-of-suc-le-suc}
 use mathlib.Core.Path.{_≡_, refl, sym, ap, ap₂, subst, _∙_}
 use mathlib.Core.Logic.{_⊎_, inl, inr, ⊎-elim}
-use mathlib.Core.Bool.{Bool, true, false, not, _&&_, and-true, true≢false, false≢true}
+use mathlib.Core.Bool.{Bool, true, false, not, _&&_, and-true, and-assoc, true≢false, false≢true}
 use mathlib.Core.List.{List, [], _∷_, _++_, map, append-assoc, append-nil, List·Memᴰ, List·Memᴰ·head, List·Memᴰ·tail, List·Memᴰ·not-nil, List·Memᴰ·cases-cons, List·Memᴰ·append-cases, Memᴰ·append-left, Memᴰ·append-right, Sublistᴰ, Sublistᴰ·slnil, Sublistᴰ·cons, Sublistᴰ·cons-cons, List·Permᴰ, List·Permᴰ·nil, List·Permᴰ·cons, List·Permᴰ·swap, List·Permᴰ·trans}
 use borrow.Author.Tests.{eqb-true, eqb-false}
 use lib.Dec.{eqb, eqb·zero-suc, eqb·suc-suc}
@@ -14,7 +14,7 @@ use lib.ListN.{length, take, drop, getD, length-append}
 use lib.Seq.{slice, take-nil}
 use Rattle.base.specs.Logic.{if_then_else_}
 use Rattle.base.specs.Lists.{filter, count, all, find-index, range, flat-map, equal-lists}
-use Rattle.base.proofs.Bools.{and-left, and-right, and-both, either, agree, by-cases}
+use Rattle.base.proofs.Bools.{and-left, and-right, and-both, either}
 
 -- ## Parts
 
@@ -54,17 +54,15 @@ module _ {A : Type 0} (equal : A → A → Bool) where
 
 -- ## All
 
+all-joined {ℓ} : {A : Type ℓ} (p : A → Bool) (xs ys : List A) → all p (xs ++ ys) ≡ all p xs && all p ys
+all-joined p [] ys = refl
+all-joined p (x ∷ xs) ys = ap (λ (b : Bool). p x && b) (all-joined p xs ys) ∙ sym (and-assoc (p x) (all p xs) (all p ys))
+
 pub all-append {ℓ} : {A : Type ℓ} (p : A → Bool) (xs ys : List A) → all p xs ≡ true → all p ys ≡ true → all p (xs ++ ys) ≡ true
-all-append p [] ys h k = k
-all-append p (x ∷ xs) ys h k =
-    and-both (p x) (all p (xs ++ ys)) (and-left (p x) (all p xs) h) (all-append p xs ys (and-right (p x) (all p xs) h) k)
+all-append p xs ys h k = all-joined p xs ys ∙ and-both (all p xs) (all p ys) h k
 
 pub all-last {ℓ} : {A : Type ℓ} (p : A → Bool) (xs : List A) (x : A) → all p (xs ++ x ∷ []) ≡ all p xs && p x
-unfolding agree
-all-last p [] x = and-true (p x)
-all-last p (y ∷ ys) x =
-    ap (λ (b : Bool). p y && b) (all-last p ys x)
-    ∙ by-cases 3 (λ a b c. a && (b && c)) (λ a b c. (a && b) && c) refl (p y) (all p ys) (p x)
+all-last p xs x = all-joined p xs (x ∷ []) ∙ ap (λ (b : Bool). all p xs && b) (and-true (p x))
 
 pub all-map : {A B : Type 0} (p : B → Bool) (f : A → B) (xs : List A) → all p (map f xs) ≡ all (λ x. p (f x)) xs
 all-map p f [] = refl

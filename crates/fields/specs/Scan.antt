@@ -25,7 +25,7 @@ scan-byte Broken byte = Broken
 abbrev pub scanned : List ℕ → Scan
 scanned columns = foldl scan-byte Blanks columns
 
--- the value so far; columns that begin no field have none
+-- the value so far; columns that begin no field have none, and 0 stands for it
 abbrev pub so-far : Scan → ℕ
 so-far Blanks = 0
 so-far (Digits n) = n
