@@ -67,28 +67,26 @@ when-passed-same [] new new′ old f = f tt
 when-passed-same (c ∷ checks) new new′ old f =
     either (c .fails) (λ h. rw h) (λ h. rw h (when-passed-same checks new new′ old (λ n. f (h, n))))
 
--- ## The outcome of checks, and all that follows from it
+-- two values that are left by the same checks are related as the old ones are, and, where all pass, the new ones
+pub both-left :
+    {A B : Type 0} (R : A → B → Type 0) (checks : List Check) {new old : A} {new′ old′ : B} → (None-fail checks → R new new′) → R old old′ →
+    R (when-passed checks new old) (when-passed checks new′ old′)
+both-left R [] f k = f tt
+both-left R (c ∷ checks) f k = either (c .fails) (λ h. rw h k) (λ h. rw h (both-left R checks (λ n. f (h, n)) k))
 
-abbrev pub outcome : List Check → Reply
-outcome checks = reply checks []
+-- ## What checks decide, whatever the values
 
--- the new value, or the old one where something is refused
-abbrev pub leaving : {A : Type 0} → Reply → A → A → A
-leaving (gives none) new old = new
-leaving (refused number detail) new old = old
+abbrev pub decision : List Check → Reply
+decision checks = reply checks []
 
--- the first outcome, or the next where nothing is refused
+-- the first decision, or the next where nothing is refused
 abbrev pub followed-by : Reply → Reply → Reply
 followed-by (gives none) next = next
 followed-by (refused number detail) next = refused number detail
 
-pub when-passed-leaving : {A : Type 0} (checks : List Check) (new old : A) → when-passed checks new old ≡ leaving (outcome checks) new old
-when-passed-leaving [] new old = refl
-when-passed-leaving (c ∷ checks) new old = either (c .fails) (λ h. rw h) (λ h. rw h (when-passed-leaving checks new old))
-
-pub outcome-append : (checks more : List Check) → outcome (checks ++ more) ≡ followed-by (outcome checks) (outcome more)
-outcome-append [] more = refl
-outcome-append (c ∷ checks) more = either (c .fails) (λ h. rw h) (λ h. rw h (outcome-append checks more))
+pub decision-append : (checks more : List Check) → decision (checks ++ more) ≡ followed-by (decision checks) (decision more)
+decision-append [] more = refl
+decision-append (c ∷ checks) more = either (c .fails) (λ h. rw h) (λ h. rw h (decision-append checks more))
 
 -- behind checks that pass the others decide
 module _ (more : List Check) where
@@ -101,10 +99,8 @@ module _ (more : List Check) where
   left-after [] new old n = refl
   left-after (c ∷ checks) new old n = rw (n .0) (left-after checks new old (n .1))
 
-abbrev pub Passed : List Check → Type 0
-Passed checks = outcome checks ≡ gives []
-
-pub passed-giving : (checks : List Check) (values given : List ℕ) → gives given ≡ reply checks values → Passed checks × (given ≡ values)
+pub passed-giving :
+    (checks : List Check) (values given : List ℕ) → gives given ≡ reply checks values → (decision checks ≡ gives []) × (given ≡ values)
 passed-giving checks values given e =
     (none-fail-reply checks [] (none-fail checks values given (sym e)), sym (given-values checks values given (sym e)))
 

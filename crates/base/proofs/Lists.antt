@@ -64,6 +64,11 @@ all-append p xs ys h k = all-joined p xs ys ∙ and-both (all p xs) (all p ys) h
 pub all-last {ℓ} : {A : Type ℓ} (p : A → Bool) (xs : List A) (x : A) → all p (xs ++ x ∷ []) ≡ all p xs && p x
 all-last p xs x = all-joined p xs (x ∷ []) ∙ ap (λ (b : Bool). all p xs && b) (and-true (p x))
 
+pub all-weaker {ℓ} : {A : Type ℓ} (p q : A → Bool) → ((x : A) → p x ≡ true → q x ≡ true) → (xs : List A) → all p xs ≡ true → all q xs ≡ true
+all-weaker p q f [] h = refl
+all-weaker p q f (x ∷ xs) h =
+    and-both (q x) (all q xs) (f x (and-left (p x) (all p xs) h)) (all-weaker p q f xs (and-right (p x) (all p xs) h))
+
 pub all-map : {A B : Type 0} (p : B → Bool) (f : A → B) (xs : List A) → all p (map f xs) ≡ all (λ x. p (f x)) xs
 all-map p f [] = refl
 all-map p f (x ∷ xs) = ap (λ rest. p (f x) && rest) (all-map p f xs)

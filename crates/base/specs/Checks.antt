@@ -1,6 +1,8 @@
--- The order of checks: each has a condition, and a number and a detail to refuse with; the first condition that holds decides.
+-- The order of checks: each has a condition, and a number and a detail to refuse with; the first condition that holds decides. A call's
+-- outcome follows from them.
 -- Assumes nothing.
 use Prim.Native.Nat.{ℕ}
+use mathlib.Core.Path.{_≡_}
 use mathlib.Core.Bool.{Bool}
 use mathlib.Core.List.{List, [], _∷_}
 use Rattle.base.specs.Logic.{if_then_else_}
@@ -27,3 +29,8 @@ reply (c ∷ checks) values = if c .fails then refused (c .number) (c .detail) e
 abbrev pub when-passed {ℓ} : {A : Type ℓ} → List Check → A → A → A
 when-passed [] new old = new
 when-passed (c ∷ checks) new old = if c .fails then old else when-passed checks new old
+
+-- What a call says and leaves: by its checks, the values that it gives, what is new and what was there. A call's contract is one of these.
+pub record Outcome {A : Type 0} (checks : List Check) (values : List ℕ) (new old : A) (said : Reply) (left : A) : Type 0 where
+  pub says : said ≡ reply checks values
+  pub leaves : left ≡ when-passed checks new old

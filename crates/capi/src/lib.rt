@@ -1,41 +1,23 @@
 // The calls for programs in C or Rust: numbers and slices only. include/budgieleaf.h says what each does.
-use columns::ReadAnswer;
+use answers::CountAnswer;
+use answers::DoneAnswer;
+use answers::Refusal;
 use discovery::FindAnswer;
-use eventlog::AddAnswer;
+use discovery::Settings;
 use eventlog::OpenAnswer;
-use eventlog::Refusal;
 use eventlog::Store;
 use watcher::MOST_CONSTRAINTS;
 use watcher::StartAnswer;
-use watcher::StepAnswer;
 use watcher::Watcher;
 ghost use mathlib.Core.Path.{_≡_};
 ghost use mathlib.Core.List.{[], _∷_};
-ghost use Rattle.base.specs.Checks.{refused};
+ghost use Rattle.answers.specs.Answers.{refusal-said, done-said, count-said};
 ghost use Rattle.eventlog.specs.Store.{sound};
-ghost use Rattle.eventlog.specs.Calls.{open-said, add-said};
-ghost use Rattle.columns.specs.Calls.{read-said};
-ghost use Rattle.discovery.specs.Calls.{find-said};
-ghost use Rattle.watcher.specs.Calls.{lent, start-said, step-said};
-ghost use Rattle.capi.specs.Numbers.{lent-numbers, number-of, Replied, opened, OpenCalled, AddCalled, ReadCalled, FindCalled, lent-watched, StartCalled, StepCalled};
-
-fn put_store(numbers: &mut [u32; 2], store: Store)
-    ensures { λ _. ⌜ now (numbers .exit) ≡ store .activities ∷ store .traces ∷ [] ⌝ }
-{
-    *numbers = [store.activities, store.traces];
-}
-
-fn put_opened(store: &mut [u32; 2], said: OpenAnswer) -> u32
-    ensures { λ r. ⌜ (r ≡ number-of (open-said said)) × (now (store .exit) ≡ opened (now (store .entry)) (open-said said)) ⌝ }
-{
-    match said {
-        OpenAnswer::Opened(new) => {
-            put_store(store, new);
-            0
-        }
-        OpenAnswer::Refused(refusal) => refusal.number as u32,
-    }
-}
+ghost use Rattle.eventlog.specs.Calls.{Opens, Adds};
+ghost use Rattle.columns.specs.Calls.{Reads};
+ghost use Rattle.discovery.specs.Calls.{find-said, Finds};
+ghost use Rattle.watcher.specs.Calls.{Starts, Steps};
+ghost use Rattle.capi.specs.Numbers.{store-of, lent-numbers, lent-watched, number-of, InNumbers, Replied, Returned};
 
 fn put_answer(answer: &mut [u64; 3], first: u64, second: u64, third: u64)
     ensures { λ _. ⌜ now (answer .exit) ≡ first ∷ second ∷ third ∷ [] ⌝ }
@@ -44,38 +26,38 @@ fn put_answer(answer: &mut [u64; 3], first: u64, second: u64, third: u64)
 }
 
 fn put_refusal(answer: &mut [u64; 3], refusal: Refusal) -> u32
-    ensures { λ r. ⌜ Replied (refused (refusal .number) (refusal .detail)) r (now (answer .exit)) ⌝ }
+    ensures { λ r. ⌜ InNumbers (refusal-said refusal) r (now (answer .exit)) ⌝ }
 {
     put_answer(answer, refusal.detail as u64, 0, 0);
     refusal.number as u32
 }
 
-fn put_added(answer: &mut [u64; 3], said: AddAnswer) -> u32
-    ensures { λ r. ⌜ Replied (add-said said) r (now (answer .exit)) ⌝ }
+fn put_done(answer: &mut [u64; 3], said: DoneAnswer) -> u32
+    ensures { λ r. ⌜ InNumbers (done-said said) r (now (answer .exit)) ⌝ }
 {
     match said {
-        AddAnswer::Added => {
+        DoneAnswer::Done => {
             put_answer(answer, 0, 0, 0);
             0
         }
-        AddAnswer::Refused(refusal) => put_refusal(answer, refusal),
+        DoneAnswer::Refused(refusal) => put_refusal(answer, refusal),
     }
 }
 
-fn put_read(answer: &mut [u64; 3], said: ReadAnswer) -> u32
-    ensures { λ r. ⌜ Replied (read-said said) r (now (answer .exit)) ⌝ }
+fn put_count(answer: &mut [u64; 3], said: CountAnswer) -> u32
+    ensures { λ r. ⌜ InNumbers (count-said said) r (now (answer .exit)) ⌝ }
 {
     match said {
-        ReadAnswer::Added(traces) => {
-            put_answer(answer, traces as u64, 0, 0);
+        CountAnswer::Count(number) => {
+            put_answer(answer, number as u64, 0, 0);
             0
         }
-        ReadAnswer::Refused(refusal) => put_refusal(answer, refusal),
+        CountAnswer::Refused(refusal) => put_refusal(answer, refusal),
     }
 }
 
 fn put_found(answer: &mut [u64; 3], said: FindAnswer) -> u32
-    ensures { λ r. ⌜ Replied (find-said said) r (now (answer .exit)) ⌝ }
+    ensures { λ r. ⌜ InNumbers (find-said said) r (now (answer .exit)) ⌝ }
 {
     match said {
         FindAnswer::Listed(found) => {
@@ -91,15 +73,21 @@ fn put_found(answer: &mut [u64; 3], said: FindAnswer) -> u32
     }
 }
 
+// The calls make the record of its numbers, and take it apart, in place: then what they promise of the memory is what the call below
+// promises, as it stands, and a helper's contract would stand between the two.
+
 #[no_mangle]
 pub extern "C" fn budgieleaf_open(n: u32, store: &mut [u32; 2]) -> u32
-    ensures { λ r. ⌜ OpenCalled n (now (store .entry)) r (now (store .exit)) ⌝ }
+    ensures { λ r. ⌜ Returned (Opens n (store-of (now (store .entry)))) r (store-of (now (store .exit))) ⌝ }
 {
-    put_opened(store, eventlog::open(n))
+    match eventlog::open(n) {
+        OpenAnswer::Opened(new) => {
+            *store = [new.activities, new.traces];
+            0
+        }
+        OpenAnswer::Refused(refusal) => refusal.number as u32,
+    }
 }
-
-// These calls make the record of its two numbers, and take it apart, in place: then what they promise of the memory is what the call below
-// promises, as it stands, and a helper's contract would stand between the two.
 
 #[no_mangle]
 pub extern "C" fn budgieleaf_is_sound(store: &[u32; 2], events: &[u8], ends: &[u32]) -> bool
@@ -120,7 +108,7 @@ pub extern "C" fn budgieleaf_add(
     trace: &[u8],
     answer: &mut [u64; 3],
 ) -> u32
-    ensures { λ r. ⌜ AddCalled (lent-numbers (store .entry) (events .entry) (ends .entry)) (now (trace .entry))
+    ensures { λ r. ⌜ Replied (Adds (lent-numbers (store .entry) (events .entry) (ends .entry)) (now (trace .entry)))
         r (lent-numbers (store .exit) (events .exit) (ends .exit)) (now (answer .exit)) ⌝ }
 {
     let kept = Store {
@@ -131,7 +119,7 @@ pub extern "C" fn budgieleaf_add(
     let after = result.store;
     *store = [after.activities, after.traces];
     let said = result.answer;
-    put_added(answer, said)
+    put_done(answer, said)
 }
 
 #[no_mangle]
@@ -142,7 +130,7 @@ pub extern "C" fn budgieleaf_read(
     log: &[u8],
     answer: &mut [u64; 3],
 ) -> u32
-    ensures { λ r. ⌜ ReadCalled (lent-numbers (store .entry) (events .entry) (ends .entry)) (now (log .entry))
+    ensures { λ r. ⌜ Replied (Reads (lent-numbers (store .entry) (events .entry) (ends .entry)) (now (log .entry)))
         r (lent-numbers (store .exit) (events .exit) (ends .exit)) (now (answer .exit)) ⌝ }
 {
     let kept = Store {
@@ -153,7 +141,7 @@ pub extern "C" fn budgieleaf_read(
     let after = result.store;
     *store = [after.activities, after.traces];
     let said = result.answer;
-    put_read(answer, said)
+    put_count(answer, said)
 }
 
 #[no_mangle]
@@ -165,40 +153,23 @@ pub extern "C" fn budgieleaf_find(
     list: &mut [u16],
     answer: &mut [u64; 3],
 ) -> u32
-    ensures { λ r. ⌜ FindCalled (lent-numbers (store .entry) (events .entry) (ends .entry)) threshold (now (list .entry))
+    ensures { λ r. ⌜ Replied (Finds (lent-numbers (store .entry) (events .entry) (ends .entry)) (record { threshold = threshold }) (now (list .entry)))
         r (now (list .exit)) (now (answer .exit)) ⌝ }
 {
     let kept = Store {
         activities: store[0],
         traces: store[1],
     };
-    put_found(answer, discovery::find(kept, events, ends, threshold, list))
+    let settings = Settings { threshold };
+    put_found(answer, discovery::find(kept, events, ends, settings, list))
 }
 
-fn put_watcher(numbers: &mut [u32; 3], watcher: Watcher)
-    ensures { λ _. ⌜ now (numbers .exit) ≡ watcher .activities ∷ watcher .constraints ∷ watcher .taken ∷ [] ⌝ }
-{
-    *numbers = [watcher.activities, watcher.constraints, watcher.taken];
-}
-
-fn put_started(watcher: &mut [u32; 3], said: StartAnswer) -> u32
-    ensures { λ r. ⌜ (r ≡ number-of (start-said said)) × (now (watcher .exit) ≡ opened (now (watcher .entry)) (start-said said)) ⌝ }
+fn number_of_done(said: DoneAnswer) -> u32
+    ensures { λ r. ⌜ r ≡ number-of (done-said said) ⌝ }
 {
     match said {
-        StartAnswer::Started(new) => {
-            put_watcher(watcher, new);
-            0
-        }
-        StartAnswer::Refused(refusal) => refusal.number as u32,
-    }
-}
-
-fn number_of_step(said: StepAnswer) -> u32
-    ensures { λ r. ⌜ r ≡ number-of (step-said said) ⌝ }
-{
-    match said {
-        StepAnswer::Taken => 0,
-        StepAnswer::Refused(refusal) => refusal.number as u32,
+        DoneAnswer::Done => 0,
+        DoneAnswer::Refused(refusal) => refusal.number as u32,
     }
 }
 
@@ -210,10 +181,16 @@ pub extern "C" fn budgieleaf_watch_start(
     states: &mut [u8; MOST_CONSTRAINTS],
     told: &mut [u8; MOST_CONSTRAINTS],
 ) -> u32
-    ensures { λ r. ⌜ StartCalled n (now (constraints .entry)) (lent (states .entry) (told .entry)) (now (watcher .entry))
-        r (now (watcher .exit)) (lent (states .exit) (told .exit)) ⌝ }
+    ensures { λ r. ⌜ Returned (Starts n (now (constraints .entry)) (lent-watched (watcher .entry) (states .entry) (told .entry)))
+        r (lent-watched (watcher .exit) (states .exit) (told .exit)) ⌝ }
 {
-    put_started(watcher, watcher::start(n, constraints, states, told))
+    match watcher::start(n, constraints, states, told) {
+        StartAnswer::Started(new) => {
+            *watcher = [new.activities, new.constraints, new.taken];
+            0
+        }
+        StartAnswer::Refused(refusal) => refusal.number as u32,
+    }
 }
 
 #[no_mangle]
@@ -224,7 +201,7 @@ pub extern "C" fn budgieleaf_watch_step(
     told: &mut [u8; MOST_CONSTRAINTS],
     activity: u32,
 ) -> u32
-    ensures { λ r. ⌜ StepCalled (now (constraints .entry)) (lent-watched (watcher .entry) (states .entry) (told .entry)) activity
+    ensures { λ r. ⌜ Returned (Steps (now (constraints .entry)) (lent-watched (watcher .entry) (states .entry) (told .entry)) activity)
         r (lent-watched (watcher .exit) (states .exit) (told .exit)) ⌝ }
 {
     let kept = Watcher {
@@ -236,5 +213,5 @@ pub extern "C" fn budgieleaf_watch_step(
     let after = result.watcher;
     *watcher = [after.activities, after.constraints, after.taken];
     let said = result.answer;
-    number_of_step(said)
+    number_of_done(said)
 }

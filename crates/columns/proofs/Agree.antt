@@ -18,11 +18,11 @@ use Rattle.eventlog.specs.Store.{longest-trace, total, all-below, after-traces,
 use Rattle.columns.specs.declared.Progress.{Progress}
 use Rattle.fields.specs.Field.{line-feed, well-formed, value}
 use Rattle.columns.specs.Log.{Line, line-of, lines-within, lines, Before, nothing-read, with-line, last?, length-of, extend-last, line-checks, log-checks-from, spelled-from}
-use Rattle.columns.specs.Survey.{Bounded, fault-of, next-of, survey-of, accepted, at-start}
-use Rattle.columns.specs.Calls.{read-said}
+use Rattle.columns.specs.Survey.{Bounded, fault-of, next-progress, survey-of, accepted, at-start}
+use Rattle.answers.specs.Answers.{count-said}
 use Rattle.base.proofs.Bools.{either, and-left, and-right}
 use Rattle.columns.proofs.LineSteps.{Faultless, faultless, bounded-next}
-use Rattle.columns.proofs.Traces.{Acceptable, Fitting, total-last, acceptable-last, acceptable-front}
+use Rattle.eventlog.proofs.Traces.{Acceptable, Fitting, total-last, acceptable-last, acceptable-front}
 use Rattle.base.proofs.Lists.{all-append}
 
 -- ## What stands before a line, in numbers
@@ -68,7 +68,7 @@ extended (t ∷ (u ∷ traces)) trace x = ap (λ (l : List (List ℕ)). t ∷ l)
 
 -- the refusal of a line, 0 where there is none
 abbrev refusal : Room → Progress → Line → ℕ
-refusal space p line = if line .laid-out then fault-of space p (line .number) (line .activity) else 4
+refusal o p line = if line .laid-out then fault-of o p (line .number) (line .activity) else 4
 
 abbrev decided : ℕ → ℕ → Reply → Reply
 decided number place on = if eqb number 0 then on else refused number place
@@ -107,13 +107,13 @@ module _ (o : Room) (place : ℕ) (line : Line) (more : List Check) (values : Li
       decided (refusal o (at-start o) line) place (reply more values)
   start-line =
       in-order (line .laid-out) false (leb (o .activities) (line .activity)) false false (full (after-traces o []))
-      (ltb (o .events) (o .last + 0 + 1)) place more values
+      (ltb (o .space .events) (o .last + 0 + 1)) place more values
       ∙ ap (λ (k : ℕ). decided k place (reply more values)) same
     where
       same :
           (if line .laid-out then
           if leb (o .activities) (line .activity) then 6
-          else if full (after-traces o []) then 8 else if ltb (o .events) (o .last + 0 + 1) then 9 else 0
+          else if full (after-traces o []) then 8 else if ltb (o .space .events) (o .last + 0 + 1) then 9 else 0
           else 4) ≡ refusal o (at-start o) line
       same =
           either (line .laid-out)
@@ -123,7 +123,7 @@ module _ (o : Room) (place : ℕ) (line : Line) (more : List Check) (values : Li
             q,
             le-ltb (line .number) (at-start o .number) (omega arith),
             ne-eqb (line .number) (at-start o .number) (λ z. omega arith),
-            no-room-same (o .events) (o .last + 0),
+            no-room-same (o .space .events) (o .last + 0),
             add-zero (o .last),
           ))
           (λ q. rw q)
@@ -144,8 +144,8 @@ module _ (o : Room) (place : ℕ) (line : Line) (more : List Check) (values : Li
       ∙ either (eqb (longest-trace - length trace) 0)
       (λ q. eq-eqb (length trace) longest-trace (omega (arith, eqb-true (longest-trace - length trace) 0 q)) ∙ sym q)
       (λ q. let apart = eqb-false (longest-trace - length trace) 0 q in ne-eqb (length trace) longest-trace (λ z. omega arith) ∙ sym q) in
-      rw (as-long, no-room-same (o .events) last)
-      (in-order (line .laid-out) falls undeclared same long (full (after-traces o (traces ++ (trace ∷ [])))) (leb (o .events) last) place more values)
+      rw (as-long, no-room-same (o .space .events) last)
+      (in-order (line .laid-out) falls undeclared same long (full (after-traces o (traces ++ (trace ∷ [])))) (leb (o .space .events) last) place more values)
 
   checked :
       (s : Prefix) → Acceptable (o .activities) (before-of s .traces) →
@@ -160,7 +160,7 @@ module _ (o : Room) (place : ℕ) (line : Line) (more : List Check) (values : Li
 pub record Goes-on (o : Room) (line : Line) (s : Prefix) : Type 0 where
   pub next : Prefix
   pub read : with-line (before-of s) line ≡ before-of next
-  pub counted : next-of (progress-of o s) (line .number) ≡ progress-of o next
+  pub counted : next-progress (progress-of o s) (line .number) ≡ progress-of o next
   pub each : Acceptable (o .activities) (before-of next .traces)
 
 declared-one : (n x : ℕ) → x < n → all-below n (x ∷ []) ≡ true
@@ -236,12 +236,12 @@ Numbered [] = Unit
 Numbered (line ∷ rest) = (line .laid-out ≡ true → 1 ≤ line .number) × Numbered rest
 
 one-line :
-    (space : Room) (p : Progress) (place : ℕ) (line : Line) (rest : List Line) (on : Reply) →
-    (line .laid-out ≡ true → fault-of space p (line .number) (line .activity) ≡ 0 →
-    on ≡ read-said (survey-of space (next-of p (line .number)) (place + 1) rest)) →
-    decided (refusal space p line) place on ≡ read-said (survey-of space p place (line ∷ rest))
-one-line space p place line rest on f =
-    let fault = fault-of space p (line .number) (line .activity) in
+    (o : Room) (p : Progress) (place : ℕ) (line : Line) (rest : List Line) (on : Reply) →
+    (line .laid-out ≡ true → fault-of o p (line .number) (line .activity) ≡ 0 →
+    on ≡ count-said (survey-of o (next-progress p (line .number)) (place + 1) rest)) →
+    decided (refusal o p line) place on ≡ count-said (survey-of o p place (line ∷ rest))
+one-line o p place line rest on f =
+    let fault = fault-of o p (line .number) (line .activity) in
     either (line .laid-out)
     (λ q.
     either (eqb fault 0)
@@ -256,7 +256,7 @@ answered o before place rest = reply (log-checks-from o before place rest) (leng
 pub agree :
     (o : Room) (rest : List Line) (s : Prefix) (place : ℕ) → Acceptable (o .activities) (before-of s .traces) →
     Bounded o (progress-of o s) → Numbered rest →
-    answered o (before-of s) place rest ≡ read-said (survey-of o (progress-of o s) place rest)
+    answered o (before-of s) place rest ≡ count-said (survey-of o (progress-of o s) place rest)
 agree o [] s place e w n = ap (λ (k : ℕ). gives (k ∷ [])) (sym (added-of o s))
 agree o (line ∷ rest) s place e w n =
     let p = progress-of o s in
@@ -289,16 +289,16 @@ numbered-lines log = numbered-within (length log) log
 
 -- ## What an accepted log spells can be added
 
-pub record Line-passes (space : Room) (p : Progress) (place : ℕ) (line : Line) (rest : List Line) : Type 0 where
+pub record Line-passes (o : Room) (p : Progress) (place : ℕ) (line : Line) (rest : List Line) : Type 0 where
   pub laid : line .laid-out ≡ true
-  pub no-fault : fault-of space p (line .number) (line .activity) ≡ 0
-  pub on : accepted (survey-of space (next-of p (line .number)) (place + 1) rest)
+  pub no-fault : fault-of o p (line .number) (line .activity) ≡ 0
+  pub on : accepted (survey-of o (next-progress p (line .number)) (place + 1) rest)
 
 pub line-passes :
-    (space : Room) (p : Progress) (place : ℕ) (line : Line) (rest : List Line) →
-    accepted (survey-of space p place (line ∷ rest)) → Line-passes space p place line rest
-line-passes space p place line rest a =
-    let fault = fault-of space p (line .number) (line .activity) in
+    (o : Room) (p : Progress) (place : ℕ) (line : Line) (rest : List Line) →
+    accepted (survey-of o p place (line ∷ rest)) → Line-passes o p place line rest
+line-passes o p place line rest a =
+    let fault = fault-of o p (line .number) (line .activity) in
     either (line .laid-out)
     (λ q.
     either (eqb fault 0)

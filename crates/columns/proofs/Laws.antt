@@ -1,5 +1,5 @@
--- Laws of read, for what comes above: after an accepted read the memory is sound, keeps the old traces followed by those that the log
--- spells, in order, and has the room that is left after them. A log spells no empty trace.
+-- Laws of read, for what comes above: after an accepted read the store has grown by the traces that the log spells, in order. A log
+-- spells no empty trace.
 -- Assumes nothing.
 use Prim.Native.Nat.{ℕ}
 use mathlib.Core.Path.{_≡_, refl, sym, _∙_}
@@ -10,17 +10,18 @@ use lib.ListN.{length}
 use Rattle.base.specs.Logic.{if_then_else_}
 use Rattle.base.specs.Lists.{non-empty, all}
 use Rattle.base.specs.Checks.{gives, reply}
-use Rattle.eventlog.specs.Store.{Memory, sound, kept, room, after-traces}
-use Rattle.columns.specs.declared.ReadAnswer.{ReadAnswer}
+use Rattle.eventlog.specs.Store.{Memory, sound, room}
+use Rattle.answers.specs.declared.CountAnswer.{CountAnswer}
 use Rattle.columns.specs.Log.{Line, lines, same-trace, extend-last, Before, nothing-read, with-line, log-checks, spelled-from, spelled}
 use Rattle.columns.specs.Survey.{Bounded, survey-of, accepted, at-start}
-use Rattle.columns.specs.Calls.{with-traces, read-said}
+use Rattle.answers.specs.Answers.{count-said}
+use Rattle.eventlog.specs.Calls.{with-traces}
 use Rattle.eventlog.proofs.Laws.{sound-facts, last-end-bound}
 use Rattle.base.proofs.Bools.{and-left, and-right, and-both}
 use Rattle.base.proofs.Lists.{all-append}
 use Rattle.base.proofs.Checks.{None-fail, none-fail-reply}
 use Rattle.columns.proofs.Agree.{no-line, agree, numbered-lines, fitting}
-use Rattle.columns.proofs.Traces.{Fitting, sound-traces, kept-traces, room-traces}
+use Rattle.eventlog.proofs.Traces.{Fitting, Grown, grown}
 
 pub bounded-start : (m : Memory) → sound m ≡ true → Bounded (room m) (at-start (room m))
 bounded-start m h =
@@ -32,14 +33,14 @@ bounded-start m h =
       in-reach = omega (arith, last-end-bound m h);
     }
 
-pub given-accepted : (answer : ReadAnswer) (values : List ℕ) → read-said answer ≡ gives values → accepted answer
-given-accepted (ReadAnswer.Added traces) values e = tt
-given-accepted (ReadAnswer.Refused refusal) values e = let z : _≡_ {A = ℕ} 0 1 = cc in absurd (omega arith)
+pub given-accepted : (answer : CountAnswer) (values : List ℕ) → count-said answer ≡ gives values → accepted answer
+given-accepted (CountAnswer.Count traces) values e = tt
+given-accepted (CountAnswer.Refused refusal) values e = let z : _≡_ {A = ℕ} 0 1 = cc in absurd (omega arith)
 
 module _ (m : Memory) (log : List ℕ) (h : sound m ≡ true) where
   -- the code's answer, in the words of the contract
   pub survey-said :
-      read-said (survey-of (room m) (at-start (room m)) 1 (lines log)) ≡
+      count-said (survey-of (room m) (at-start (room m)) 1 (lines log)) ≡
       reply (log-checks (room m) log) (length (spelled log) ∷ [])
   unfolding log-checks spelled
   survey-said = sym (agree (room m) (lines log) no-line 1 tt (bounded-start m h) (numbered-lines log))
@@ -55,14 +56,8 @@ module _ (m : Memory) (log : List ℕ) (h : sound m ≡ true) where
         (given-accepted (survey-of (room m) (at-start (room m)) 1 (lines log)) (length (spelled log) ∷ [])
         (survey-said ∙ none-fail-reply (log-checks (room m) log) (length (spelled log) ∷ []) none))
 
-    pub sound-read : sound (with-traces m (spelled log)) ≡ true
-    sound-read = sound-traces (spelled log) m h fitting-read
-
-    pub kept-read : kept (with-traces m (spelled log)) ≡ kept m ++ spelled log
-    kept-read = kept-traces (spelled log) m h fitting-read
-
-    pub room-read : room (with-traces m (spelled log)) ≡ after-traces (room m) (spelled log)
-    room-read = room-traces (spelled log) m h fitting-read
+    pub grown-read : Grown m (spelled log) (with-traces m (spelled log))
+    grown-read = grown (spelled log) m h fitting-read
 
 -- ## Empty traces can't be written
 

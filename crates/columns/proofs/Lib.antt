@@ -3,5 +3,4 @@ pub mod Laws
 pub mod LineSteps
 pub mod Lines
 pub mod ReadContract
-pub mod Traces
 pub mod Written

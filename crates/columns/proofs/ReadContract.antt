@@ -1,4 +1,4 @@
--- What read's parts give to read: the answer, what is written where it is accepted, and the contract of either case.
+-- What read's parts give to read: the answer, and what is written where it is accepted.
 -- Assumes nothing.
 use Prim.Native.Nat.{ℕ, _+_, _≤_}
 use mathlib.Core.Path.{_≡_, sym, ap, _∙_}
@@ -8,30 +8,31 @@ use native.Mathlib.Omega.{arith}
 use lib.ListN.{length}
 use borrow.Author.Tests.{not-false}
 use Rattle.base.specs.Checks.{Reply, gives, refused, reply}
-use Rattle.base.proofs.Checks.{none-fail, none-fail-reply, given-new, refused-old}
-use Rattle.eventlog.specs.declared.Refusal.{Refusal}
-use Rattle.eventlog.specs.Store.{Memory, memory, most-traces, sound, room}
-use Rattle.eventlog.proofs.Adding.{Grown}
-use Rattle.columns.specs.declared.ReadAnswer.{ReadAnswer}
+use Rattle.base.proofs.Checks.{none-fail, none-fail-reply}
+use Rattle.eventlog.specs.Store.{Memory, memory, with-store, most-traces, sound, room}
+use Rattle.answers.specs.declared.CountAnswer.{CountAnswer}
 use Rattle.columns.specs.Log.{lines, log-checks, spelled}
 use Rattle.columns.specs.Survey.{survey-of, accepted, at-start, lines-written}
-use Rattle.columns.specs.Calls.{checks-of-read, with-traces, read-said, Reads}
+use Rattle.answers.specs.Answers.{count-said}
+use Rattle.eventlog.specs.declared.Room.{Room}
+use Rattle.eventlog.specs.Calls.{with-traces}
+use Rattle.columns.specs.Calls.{checks-of-read}
 use Rattle.columns.proofs.Agree.{no-line, numbered-lines}
-use Rattle.columns.proofs.Laws.{bounded-start, given-accepted, survey-said, fitting-accepted, sound-read, kept-read, room-read}
-use Rattle.columns.proofs.Written.{beside, written}
-use Rattle.columns.proofs.Traces.{Fitting, count-traces, activities-traces}
+use Rattle.columns.proofs.Laws.{bounded-start, given-accepted, survey-said, fitting-accepted}
+use Rattle.columns.proofs.Written.{written}
+use Rattle.eventlog.proofs.Traces.{Fitting, grown}
 
 module _ (m : Memory) (log : List ℕ) where
   abbrev replied : Reply
   replied = reply (checks-of-read m log) (length (spelled log) ∷ [])
 
-  abbrev surveyed : ReadAnswer
+  abbrev surveyed : CountAnswer
   surveyed = survey-of (room m) (at-start (room m)) 1 (lines log)
 
   pub unsound-replied : sound m ≡ false → refused 1 0 ≡ replied
   unsound-replied h = rw h
 
-  pub sound-replied : sound m ≡ true → read-said surveyed ≡ replied
+  pub sound-replied : sound m ≡ true → count-said surveyed ≡ replied
   sound-replied h = rw h (survey-said m log h)
 
   -- What is known where the answer is a count.
@@ -61,42 +62,10 @@ module _ (m : Memory) (log : List ℕ) where
   appended added b e w =
       let k = counted added e in
       let all = with-traces m (spelled log) in
-      let left : b ≡ beside (m .store) all =
+      let left : b ≡ with-store (m .store) all =
       w ∙ written m (k .is-sound) (lines log) no-line 1 tt (bounded-start m (k .is-sound)) (numbered-lines log) (k .passes) in
-      let activities : m .store .activities ≡ all .store .activities = sym (activities-traces (spelled log) m) in
-      let traces : m .store .traces + added ≡ all .store .traces = omega (arith, k .count, count-traces (spelled log) m) in
+      let room-left = grown (spelled log) m (k .is-sound) (k .fitting) .room-left in
+      let activities : m .store .activities ≡ all .store .activities = sym (ap (λ (r : Room). r .activities) room-left) in
+      let traces : m .store .traces + added ≡ all .store .traces = omega (arith, k .count, ap (λ (r : Room). r .traces) room-left) in
       λ i.
       record { store = record { activities = activities i; traces = traces i }; events = left i .events; ends = left i .ends }
-
-  pub reads-refused :
-      (answer : ReadAnswer) (refusal : Refusal) → read-said answer ≡ replied → answer ≡ ReadAnswer.Refused refusal → Reads m log answer m
-  reads-refused answer refusal says e =
-      record {
-        says = says;
-        leaves = sym (refused-old (checks-of-read m log) _ _ _ (sym says ∙ ap read-said e) (with-traces m (spelled log)) m);
-      }
-
-  pub reads-added :
-      (added : ℕ) (after : Memory) → gives (added ∷ []) ≡ replied → after ≡ with-traces m (spelled log) →
-      Reads m log (ReadAnswer.Added added) after
-  reads-added added after says e =
-      record { says = says; leaves = e ∙ sym (given-new (checks-of-read m log) _ _ (sym says) (with-traces m (spelled log)) m) }
-
--- ## What read's contract gives to its callers
-
-module _ (m : Memory) (log : List ℕ) (answer : ReadAnswer) (after : Memory) (reads : Reads m log answer after) where
-  pub after-added : (values : List ℕ) → read-said answer ≡ gives values → Grown m (spelled log) after
-  after-added values e =
-      let given = sym (reads .says) ∙ e in
-      let none = none-fail (checks-of-read m log) _ _ given in
-      let h = not-false (sound m) (none .0) in
-      rw (reads .leaves ∙ given-new (checks-of-read m log) _ _ given (with-traces m (spelled log)) m)
-      (record {
-        still-sound = sound-read m log h (none .1);
-        room-left = room-read m log h (none .1);
-        keeps = kept-read m log h (none .1);
-      })
-
-  pub after-refused : (number detail : ℕ) → read-said answer ≡ refused number detail → after ≡ m
-  after-refused number detail e =
-      reads .leaves ∙ refused-old (checks-of-read m log) _ number detail (sym (reads .says) ∙ e) (with-traces m (spelled log)) m

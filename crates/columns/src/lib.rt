@@ -1,33 +1,31 @@
 // Logs in columns: lines, read.
+use answers::CountAnswer;
+use answers::Refusal;
 use eventlog::LONGEST_TRACE;
-use eventlog::Refusal;
 use eventlog::Room;
 use eventlog::Store;
 use fields::Field;
-ghost use Prim.Native.Nat.{_*_, _≤_, _<_};
+ghost use Prim.Native.Nat.{_<_};
 ghost use mathlib.Core.Path.{_≡_};
 ghost use mathlib.Core.Bool.{true};
 ghost use mathlib.Core.List.{_∷_, []};
 ghost use lib.ListN.{length, take, drop};
 ghost use Rattle.base.specs.Checks.{gives, reply};
-ghost use Rattle.eventlog.specs.Store.{most-traces, longest-trace, lent, sound, room as room-in};
+ghost use Rattle.answers.specs.Answers.{count-said};
+ghost use Rattle.eventlog.specs.Store.{lent, sound, room as room-in};
+ghost use Rattle.eventlog.specs.Calls.{with-traces};
 ghost use Rattle.columns.specs.Log.{line-of, lines, spelled};
-ghost use Rattle.columns.specs.Survey.{at-start, entry-of, Bounded, room-at, unplaced-of, fault-of, next-of, step-of, survey-of, accepted, moved, line-written, Writable, lines-written};
-ghost use Rattle.columns.specs.Calls.{checks-of-read, with-traces, read-said, Reads};
+ghost use Rattle.columns.specs.Survey.{at-start, entry-of, Bounded, Onward, room-at, unplaced-of, fault-of, next-progress, step-of, survey-of, accepted, moved, line-written, Writable, lines-written};
+ghost use Rattle.columns.specs.Calls.{checks-of-read, Reads};
 
 // Document 01's numbers of the refusals that come from here.
 pub const MALFORMED: u8 = 4;
 
 pub const NUMBER_FALLS: u8 = 5;
 
-pub enum ReadAnswer {
-    Added(u32),
-    Refused(Refusal),
-}
-
 pub struct ReadResult {
     pub store: Store,
-    pub answer: ReadAnswer,
+    pub answer: CountAnswer,
 }
 
 // A line's bytes, its line feed among them.
@@ -86,7 +84,7 @@ enum Step {
 fn unplaced(room: Room, p: Progress) -> u8
     ensures { λ r. ⌜ r ≡ unplaced-of room p ⌝ }
 {
-    if room.events <= p.last as usize {
+    if room.space.events <= p.last as usize {
         eventlog::NO_SPACE
     } else {
         0
@@ -98,12 +96,12 @@ fn room_at(room: Room, p: Progress) -> Room
     requires { ⌜ Bounded room p ⌝ }
     ensures { λ r. ⌜ r ≡ room-at room p ⌝ }
 {
+    let space = room.space;
     Room {
         activities: room.activities,
         traces: room.traces + p.added,
         last: p.last,
-        events: room.events,
-        ends: room.ends,
+        space,
     }
 }
 
@@ -131,8 +129,8 @@ fn fault(room: Room, p: Progress, number: u32, activity: u32) -> u8
 }
 
 fn next(p: Progress, number: u32) -> Progress
-    requires { ⌜ (p .added ≤ most-traces) × (p .last ≤ longest-trace * most-traces) × (number ≡ p .number → 1 ≤ p .left) ⌝ }
-    ensures { λ r. ⌜ r ≡ next-of p number ⌝ }
+    requires { ⌜ Onward p number ⌝ }
+    ensures { λ r. ⌜ r ≡ next-progress p number ⌝ }
 {
     if p.number == number {
         return Progress {
@@ -180,7 +178,7 @@ fn start(room: Room) -> Progress
 }
 
 // The answer to a log, before anything is written: the traces to be added, or the first line's refusal.
-fn survey(room: Room, log: &[u8]) -> ReadAnswer
+fn survey(room: Room, log: &[u8]) -> CountAnswer
     requires { ⌜ Bounded room (at-start room) ⌝ }
     ensures { λ r. ⌜ r ≡ survey-of room (at-start room) 1 (lines (now (log .entry))) ⌝ }
 {
@@ -193,7 +191,7 @@ fn survey(room: Room, log: &[u8]) -> ReadAnswer
                 p = q;
             }
             Step::Fault(number) => {
-                return ReadAnswer::Refused(Refusal {
+                return CountAnswer::Refused(Refusal {
                     number,
                     detail: place,
                 });
@@ -202,7 +200,7 @@ fn survey(room: Room, log: &[u8]) -> ReadAnswer
         at += LINE;
         place += 1;
     }
-    ReadAnswer::Added(p.added)
+    CountAnswer::Count(p.added as usize)
 }
 
 // One line's event and its trace's end, written.
@@ -247,12 +245,12 @@ fn write_lines(store: Store, events: &mut [u8], ends: &mut [u32], log: &[u8])
 }
 
 // The answer of read, before anything is written.
-fn answer(store: Store, events: &[u8], ends: &[u32], log: &[u8]) -> ReadAnswer
+fn answer(store: Store, events: &[u8], ends: &[u32], log: &[u8]) -> CountAnswer
     ensures { λ r.
-        ⌜ read-said r ≡ reply (checks-of-read (lent store (events .entry) (ends .entry)) (now (log .entry))) (length (spelled (now (log .entry))) ∷ []) ⌝ }
+        ⌜ count-said r ≡ reply (checks-of-read (lent store (events .entry) (ends .entry)) (now (log .entry))) (length (spelled (now (log .entry))) ∷ []) ⌝ }
 {
     if !eventlog::is_sound(store, events, ends) {
-        return ReadAnswer::Refused(Refusal {
+        return CountAnswer::Refused(Refusal {
             number: eventlog::NOT_SOUND,
             detail: 0,
         });
@@ -261,26 +259,26 @@ fn answer(store: Store, events: &[u8], ends: &[u32], log: &[u8]) -> ReadAnswer
 }
 
 // The log's traces, written behind those kept, where the answer was that so many are added.
-fn append(store: Store, events: &mut [u8], ends: &mut [u32], log: &[u8], added: u32) -> Store
+fn append(store: Store, events: &mut [u8], ends: &mut [u32], log: &[u8], added: usize) -> Store
     requires { ⌜ gives (added ∷ []) ≡ reply (checks-of-read (lent store events ends) (now log)) (length (spelled (now log)) ∷ []) ⌝ }
     ensures { λ r. ⌜ lent r (events .exit) (ends .exit) ≡ with-traces (lent store (events .entry) (ends .entry)) (spelled (now (log .entry))) ⌝ }
 {
     write_lines(store, events, ends, log);
     Store {
         activities: store.activities,
-        traces: store.traces + added,
+        traces: store.traces + added as u32,
     }
 }
 
 // The traces that a log in columns spells, added behind those kept; or the refusal of the first line with a fault, and nothing written.
 pub fn read(store: Store, events: &mut [u8], ends: &mut [u32], log: &[u8]) -> ReadResult
     ensures { λ r.
-        ⌜ Reads (lent store (events .entry) (ends .entry)) (now (log .entry)) (r .answer) (lent (r .store) (events .exit) (ends .exit)) ⌝ }
+        ⌜ Reads (lent store (events .entry) (ends .entry)) (now (log .entry)) (count-said (r .answer)) (lent (r .store) (events .exit) (ends .exit)) ⌝ }
 {
     let answer = answer(store, events, ends, log);
     match answer {
-        ReadAnswer::Refused(_) => ReadResult { store, answer },
-        ReadAnswer::Added(added) => ReadResult {
+        CountAnswer::Refused(_) => ReadResult { store, answer },
+        CountAnswer::Count(added) => ReadResult {
             store: append(store, events, ends, log, added),
             answer,
         },

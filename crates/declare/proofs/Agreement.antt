@@ -18,7 +18,7 @@ use Rattle.declare.specs.declared.Verdict.{Verdict}
 use Rattle.declare.specs.declared.Verdict.the-variants.{Fulfilled, NotActivated, Violated}
 use Rattle.declare.specs.Meaning.{holds, verdict}
 use Rattle.declare.specs.Automata.{next-of, verdict-of, letter, follow, byte-of, told, stands}
-use Rattle.declare.proofs.Summary.{Summary, summary, flags-of, with-event, after, answer, summed}
+use Rattle.declare.proofs.Summary.{Summary, summary, flags-of, with-event, stepped-all, answer, summed}
 use Rattle.declare.proofs.Deciding.{decides-holds, decides}
 
 -- ## The places
@@ -166,7 +166,7 @@ module _ (template a b : ℕ) (low : 1 ≤ template) (high : template ≤ 24) (a
   agree-from : {A : Type 0} (of-state : ℕ → A) (of-summary : Summary → A)
       → ((p : Place) → among p places ≡ true → of-state (getD (p .states) template 0) ≡ of-summary (summary a b (p .flags)))
       → (p : Place) (trace : List ℕ) → among p places ≡ true
-      → of-state (follow template a b (getD (p .states) template 0) trace) ≡ of-summary (after (summary a b (p .flags)) trace)
+      → of-state (follow template a b (getD (p .states) template 0) trace) ≡ of-summary (stepped-all (summary a b (p .flags)) trace)
   agree-from of-state of-summary there p [] found = there p found
   agree-from of-state of-summary there p (x ∷ trace) found =
       let l = letter a b x in
@@ -174,11 +174,11 @@ module _ (template a b : ℕ) (low : 1 ≤ template) (high : template ≤ 24) (a
       let at-once = range-at (λ t. next-of t (getD (p .states) t 0) l) 25 template 0 (omega arith) in
       ap (λ k. of-state (follow template a b k trace)) (sym at-once)
       ∙ agree-from of-state of-summary there (onward p l) trace (onward-found p found l (letter-small a b x))
-      ∙ ap₂ (λ is-a is-b. of-summary (after (with-event (summary a b (p .flags)) is-a is-b) trace)) (says .0) (says .1)
+      ∙ ap₂ (λ is-a is-b. of-summary (stepped-all (with-event (summary a b (p .flags)) is-a is-b) trace)) (says .0) (says .1)
 
   agree-at-first : {A : Type 0} (of-state : ℕ → A) (of-summary : Summary → A)
       → ((p : Place) → among p places ≡ true → of-state (getD (p .states) template 0) ≡ of-summary (summary a b (p .flags)))
-      → (trace : List ℕ) → of-state (follow template a b 0 trace) ≡ of-summary (after (summary a b []) trace)
+      → (trace : List ℕ) → of-state (follow template a b 0 trace) ≡ of-summary (stepped-all (summary a b []) trace)
   agree-at-first of-state of-summary there trace =
       ap (λ k. of-state (follow template a b k trace)) (sym (range-at (λ t. 0) 25 template 0 (omega arith)))
       ∙ agree-from of-state of-summary there at-first trace (and-left (among at-first places) _ places-closed)

@@ -11,7 +11,7 @@ use lib.Dec.{eqb, leb, leb·suc-suc, leb·zero}
 use lib.ListN.{getD, List·getD-map}
 use Rattle.base.specs.Logic.{_implies_, if_then_else_}
 use Rattle.declare.specs.Meaning.{Test, Meaning, each-on, some, occurs, times, starts-with, ends-with, precedence, alternate-precedence, chain-precedence, meanings, never, holds, activated, verdict}
-use Rattle.declare.proofs.Summary.{Summary, no-event-yet, stepped, after, answers, answer, summed}
+use Rattle.declare.proofs.Summary.{Summary, no-event-yet, stepped, stepped-all, answers, answer, summed}
 use Rattle.base.proofs.Bools.{Expression, agree, by-cases}
 use Rattle.declare.proofs.Places.{occurs-on, occurs-snoc, ends-snoc, b-before-a, unanswered, b-before-a-cons, unanswered-snoc}
 
@@ -20,7 +20,7 @@ use Rattle.declare.proofs.Places.{occurs-on, occurs-snoc, ends-snoc, b-
 -- One law for the two: a flag that takes up each occurrence of an activity.
 module _ (flag : Summary → Bool) (activity : Summary → ℕ) (takes-up : (s : Summary) (x : ℕ) → flag (stepped s x) ≡ flag s || eqb x (activity s))
     (stays : (s : Summary) (x : ℕ) → activity (stepped s x) ≡ activity s) where
-  occurred : (s : Summary) (trace : List ℕ) → flag (after s trace) ≡ flag s || occurs (activity s) trace
+  occurred : (s : Summary) (trace : List ℕ) → flag (stepped-all s trace) ≡ flag s || occurs (activity s) trace
   unfolding agree
   occurred s [] = by-cases 1 (λ p. p) (λ p. p || false) refl (flag s)
   occurred s (x ∷ trace) =
@@ -28,10 +28,10 @@ module _ (flag : Summary → Bool) (activity : Summary → ℕ) (takes-up : (s :
       (occurred (stepped s x) trace
       ∙ rw (takes-up s x, stays s x) (or-assoc (flag s) (eqb x (activity s)) (occurs (activity s) trace)))
 
-one-after : (s : Summary) (trace : List ℕ) → after s trace .one ≡ s .one || occurs (s .a) trace
+one-after : (s : Summary) (trace : List ℕ) → stepped-all s trace .one ≡ s .one || occurs (s .a) trace
 one-after = occurred (λ s. s .one) (λ s. s .a) (λ s x. refl) (λ s x. refl)
 
-seen-after : (s : Summary) (trace : List ℕ) → after s trace .seen ≡ s .seen || occurs (s .b) trace
+seen-after : (s : Summary) (trace : List ℕ) → stepped-all s trace .seen ≡ s .seen || occurs (s .b) trace
 seen-after = occurred (λ s. s .seen) (λ s. s .b) (λ s x. refl) (λ s x. refl)
 
 -- ## Each a, and what comes after it
@@ -41,7 +41,7 @@ abbrev at-each : ℕ → (List ℕ → Bool) → Test
 at-each a p before x after = eqb x a implies p after
 
 owed-after : (s : Summary) (before trace : List ℕ)
-    → not (after s trace .owed) ≡ (s .owed implies occurs (s .b) trace) && each-on before trace (at-each (s .a) (occurs (s .b)))
+    → not (stepped-all s trace .owed) ≡ (s .owed implies occurs (s .b) trace) && each-on before trace (at-each (s .a) (occurs (s .b)))
 unfolding agree
 owed-after s before [] = by-cases 1 (λ p. not p) (λ p. (p implies false) && true) refl (s .owed)
 owed-after s before (x ∷ trace) =
@@ -57,7 +57,7 @@ owed-after s before (x ∷ trace) =
     (each-on (before ++ (x ∷ [])) trace (at-each (s .a) (occurs (s .b)))))
 
 alternate-after : (s : Summary) (before trace : List ℕ)
-    → not (after s trace .owed) && not (after s trace .doubled)
+    → not (stepped-all s trace .owed) && not (stepped-all s trace .doubled)
     ≡ not (s .doubled)
     && ((s .owed implies some trace (b-before-a (s .a) (s .b)))
     && each-on before trace (at-each (s .a) (λ after. some after (b-before-a (s .a) (s .b)))))
@@ -78,7 +78,7 @@ alternate-after s before (x ∷ trace) =
     (each-on (before ++ (x ∷ [])) trace (at-each (s .a) (λ after. some after (b-before-a (s .a) (s .b))))))
 
 chain-after : (s : Summary) (before trace : List ℕ)
-    → not (after s trace .missed) && not (after s trace .last)
+    → not (stepped-all s trace .missed) && not (stepped-all s trace .last)
     ≡ not (s .missed) && ((s .last implies starts-with (s .b) trace) && each-on before trace (at-each (s .a) (starts-with (s .b))))
 unfolding agree
 chain-after s before [] =
@@ -96,7 +96,7 @@ chain-after s before (x ∷ trace) =
     (each-on (before ++ (x ∷ [])) trace (at-each (s .a) (starts-with (s .b))))
 
 later-after : (s : Summary) (before trace : List ℕ)
-    → not (after s trace .later)
+    → not (stepped-all s trace .later)
     ≡ not (s .later)
     && ((s .one implies not (occurs (s .b) trace)) && each-on before trace (at-each (s .a) (λ after. not (occurs (s .b) after))))
 unfolding agree
@@ -115,7 +115,7 @@ later-after s before (x ∷ trace) =
     (each-on (before ++ (x ∷ [])) trace (at-each (s .a) (λ after. not (occurs (s .b) after)))))
 
 next-after : (s : Summary) (before trace : List ℕ)
-    → not (after s trace .next)
+    → not (stepped-all s trace .next)
     ≡ not (s .next)
     && ((s .last implies not (starts-with (s .b) trace)) && each-on before trace (at-each (s .a) (λ after. not (starts-with (s .b) after))))
 unfolding agree
@@ -140,7 +140,7 @@ module _ (a b : ℕ) (test : List ℕ → Bool) (ready bad : Summary → Bool)
     (keeps : (s : Summary) (x : ℕ) (before : List ℕ) → s .a ≡ a → s .b ≡ b → ready s ≡ test before
     → ready (stepped s x) ≡ test (before ++ (x ∷ []))) where
   bad-after : (s : Summary) (before trace : List ℕ) → s .a ≡ a → s .b ≡ b → ready s ≡ test before
-      → not (bad (after s trace)) ≡ not (bad s) && each-on before trace (λ before x after. eqb x b implies test before)
+      → not (bad (stepped-all s trace)) ≡ not (bad s) && each-on before trace (λ before x after. eqb x b implies test before)
   unfolding agree
   bad-after s before [] d e h = by-cases 1 (λ p. not p) (λ p. not p && true) refl (bad s)
   bad-after s before (x ∷ trace) d e h =
@@ -152,7 +152,7 @@ module _ (a b : ℕ) (test : List ℕ → Bool) (ready bad : Summary → Bool)
       (test before)
       (each-on (before ++ (x ∷ [])) trace (λ before x after. eqb x b implies test before)))
 
-early-after : (a b : ℕ) (trace : List ℕ) → not (after (no-event-yet a b) trace .early) ≡ precedence a b trace
+early-after : (a b : ℕ) (trace : List ℕ) → not (stepped-all (no-event-yet a b) trace .early) ≡ precedence a b trace
 early-after a b trace =
     bad-after a b (occurs a) (λ s. s .one) (λ s. s .early) (λ s x e. ap (λ (n : ℕ). s .early || (eqb x n && not (s .one))) e)
     (λ s x before d e h.
@@ -160,7 +160,7 @@ early-after a b trace =
     ∙ sym (occurs-snoc a x before))
     (no-event-yet a b) [] trace refl refl refl
 
-bare-after : (a b : ℕ) (trace : List ℕ) → not (after (no-event-yet a b) trace .bare) ≡ alternate-precedence a b trace
+bare-after : (a b : ℕ) (trace : List ℕ) → not (stepped-all (no-event-yet a b) trace .bare) ≡ alternate-precedence a b trace
 bare-after a b trace =
     bad-after a b (λ before. some before (unanswered a b)) (λ s. s .owed) (λ s. s .bare)
     (λ s x e. ap (λ (n : ℕ). s .bare || (eqb x n && not (s .owed))) e)
@@ -170,7 +170,7 @@ bare-after a b trace =
     ∙ sym (unanswered-snoc a b x [] before))
     (no-event-yet a b) [] trace refl refl refl
 
-loose-after : (a b : ℕ) (trace : List ℕ) → not (after (no-event-yet a b) trace .loose) ≡ chain-precedence a b trace
+loose-after : (a b : ℕ) (trace : List ℕ) → not (stepped-all (no-event-yet a b) trace .loose) ≡ chain-precedence a b trace
 loose-after a b trace =
     bad-after a b (ends-with a) (λ s. s .last) (λ s. s .loose) (λ s x e. ap (λ (n : ℕ). s .loose || (eqb x n && not (s .last))) e)
     (λ s x before d e h. ap (λ (n : ℕ). eqb x n) d ∙ sym (ends-snoc a x before))
@@ -212,13 +212,13 @@ counts-step s n x h =
       ap₂ (λ (p q : Bool). p || (is-a && q)) (h .2) (h .1) ∙ bound-more 2 n is-a,
     )
 
-counts-after : (s : Summary) (n : ℕ) (trace : List ℕ) → Counts s n → Counts (after s trace) (n + times (s .a) trace)
+counts-after : (s : Summary) (n : ℕ) (trace : List ℕ) → Counts s n → Counts (stepped-all s trace) (n + times (s .a) trace)
 counts-after s n [] h = rw add-zero h
 counts-after s n (x ∷ trace) h =
     rw (more-add (eqb x (s .a)) n (times (s .a) trace)) at
     (counts-after (stepped s x) (more (eqb x (s .a)) n) trace (counts-step s n x h))
 
-first-after : (s : Summary) (trace : List ℕ) → after s trace .first ≡ s .first || (not (s .started) && starts-with (s .a) trace)
+first-after : (s : Summary) (trace : List ℕ) → stepped-all s trace .first ≡ s .first || (not (s .started) && starts-with (s .a) trace)
 unfolding agree
 first-after s [] = by-cases 2 (λ f t. f) (λ f t. f || (not t && false)) refl (s .first) (s .started)
 first-after s (x ∷ trace) =
@@ -229,7 +229,7 @@ first-after s (x ∷ trace) =
     (eqb x (s .a))
     (starts-with (s .a) trace)
 
-last-after : (s : Summary) (before trace : List ℕ) → s .last ≡ ends-with (s .a) before → after s trace .last ≡ ends-with (s .a) (before ++ trace)
+last-after : (s : Summary) (before trace : List ℕ) → s .last ≡ ends-with (s .a) before → stepped-all s trace .last ≡ ends-with (s .a) (before ++ trace)
 last-after s before [] h = rw append-nil h
 last-after s before (x ∷ trace) h =
     last-after (stepped s x) (before ++ (x ∷ [])) trace (sym (ends-snoc (s .a) x before)) ∙ rw append-assoc
@@ -249,7 +249,7 @@ p then q = ap₂ _∷_ p q
 
 module _ (a b : ℕ) (trace : List ℕ) where
   end : Summary
-  end = after (no-event-yet a b) trace
+  end = stepped-all (no-event-yet a b) trace
 
   counts : Counts end (times a trace)
   unfolding end
@@ -302,12 +302,12 @@ module _ (a b : ℕ) (trace : List ℕ) where
       ∙ List·getD-map (λ (m : Meaning). m a b trace) (never ∷ meanings) template never
 
 -- after any trace, for every template number and every a and b, the summary tells whether the template holds
-pub decides-holds : (template a b : ℕ) (trace : List ℕ) → answer (after (no-event-yet a b) trace) template ≡ holds template a b trace
+pub decides-holds : (template a b : ℕ) (trace : List ℕ) → answer (stepped-all (no-event-yet a b) trace) template ≡ holds template a b trace
 unfolding end
 decides-holds template a b trace = answer-right a b trace template
 
 -- and the verdict read off it is the verdict of the definitions
-pub decides : (template a b : ℕ) (trace : List ℕ) → summed (after (no-event-yet a b) trace) template ≡ verdict template a b trace
+pub decides : (template a b : ℕ) (trace : List ℕ) → summed (stepped-all (no-event-yet a b) trace) template ≡ verdict template a b trace
 unfolding summed verdict activated end
 decides template a b trace =
     simp (one-after (no-event-yet a b) trace, seen-after (no-event-yet a b) trace, answer-right a b trace template)

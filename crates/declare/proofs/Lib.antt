@@ -1,4 +1,3 @@
-pub mod Ranges
 pub mod Places
 pub mod Summary
 pub mod Deciding

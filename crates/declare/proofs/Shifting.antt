@@ -4,20 +4,19 @@ use Prim.Native.Nat.{ℕ, _+_, _-_, _*_, _/_, _%_, _^_, _≤_, _<_}
 use native.Mathlib.Omega.{arith}
 use mathlib.Core.Path.{_≡_, refl, ap, ap₂, _∙_}
 use mathlib.Core.Bool.{Bool, true, false}
-use mathlib.Core.List.{List, [], _∷_, map}
-use borrow.Author.Tests.{eqb-true, eqb-false, ne-eqb}
-use lib.Dec.{eqb}
+use mathlib.Core.List.{List, [], _∷_}
+use borrow.Author.Tests.{eqb-true, eqb-false, ltb-true}
+use lib.Dec.{eqb, ltb}
 use lib.ListN.{getD, set, replicate, length, length-set, getD-replicate}
 use lib.Seq.{getD-set-same, getD-set-other}
 use Rattle.base.specs.Logic.{if_then_else_}
 use Rattle.base.specs.Lists.{all, range}
 use Rattle.base.proofs.Lists.{all-range}
-use Rattle.base.proofs.Bools.{either}
+use Rattle.base.proofs.Bools.{and-left, and-right, either}
 use Rattle.declare.specs.declared.Automaton.{Automaton}
 use Rattle.declare.specs.declared.Replayer.{Replayer}
-use Rattle.declare.specs.Meaning.{activity, beside}
 use Rattle.declare.specs.Automata.{state-verdicts, next-of, verdict-of, letter, follow, told, moves-word, verdicts-word, automaton, moves-of, start, shift-of, advance, advance-all, verdict-by}
-use Rattle.declare.proofs.Ranges.{inside}
+use Rattle.base.proofs.Ranges.{inside}
 use Rattle.declare.proofs.Agreement.{letter-small}
 
 -- ## The words
@@ -60,31 +59,25 @@ set-at : (l : List ℕ) (i j y : ℕ) → i < length l → getD (set l i y) j 0 
 set-at l i j y h =
     either (eqb j i) (λ e. rw (e, eqb-true j i e) (getD-set-same l i y 0 h)) (λ e. rw e (getD-set-other l i j y 0 (eqb-false j i e)))
 
--- where b is a, no event is b
-beside-says : (a b x : ℕ) → x < 32 → eqb x a ≡ false → eqb x (beside a b) ≡ eqb x b
-beside-says a b x small e =
-    either (eqb a b) (λ f. rw (f, ← eqb-true a b f, e) (ne-eqb x 32 (λ g. omega arith))) (λ f. rw f)
-
 -- each activity's number is that of its letter
-pub chosen : (word : ℕ → ℕ) (verdicts a b x : ℕ)
-    → getD (moves-of (lettered word verdicts) a b) (x % 32) 0 ≡ word (letter (activity a) (beside (activity a) (activity b)) (activity x))
-chosen word verdicts a b x =
+chosen : (word : ℕ → ℕ) (verdicts a b x : ℕ) → a < 32 → b < 32 → x < 32
+    → getD (moves-of (lettered word verdicts) a b) (x % 32) 0 ≡ word (letter a b x)
+chosen word verdicts a b x small-a small-b small =
     let others = replicate 32 (word 2) in
-    set-at (set others (b % 32) (word 1)) (a % 32) (x % 32) (word 0) (rw length-set (omega arith))
-    ∙ ap (λ n. if eqb (x % 32) (a % 32) then word 0 else n)
-    (set-at others (b % 32) (x % 32) (word 1) (omega arith)
-    ∙ ap (λ n. if eqb (x % 32) (b % 32) then word 1 else n) (getD-replicate 32 (x % 32) (word 2) 0 (omega arith)))
-    ∙ go (eqb (x % 32) (a % 32)) refl
+    let same-a : a % 32 ≡ a = omega arith in
+    let same-b : b % 32 ≡ b = omega arith in
+    let same : x % 32 ≡ x = omega arith in
+    rw (same-a, same-b, same)
+    (set-at (set others b (word 1)) a x (word 0) (rw length-set (omega arith))
+    ∙ ap (λ n. if eqb x a then word 0 else n)
+    (set-at others b x (word 1) (omega arith)
+    ∙ ap (λ n. if eqb x b then word 1 else n) (getD-replicate 32 x (word 2) 0 small))
+    ∙ pick (eqb x a) (eqb x b))
   where
-    pick : (q : Bool) → (if q then word 1 else word 2) ≡ word (if q then 1 else 2)
-    pick true = refl
-    pick false = refl
-
-    go : (p : Bool) → eqb (x % 32) (a % 32) ≡ p
-        → (if p then word 0 else if eqb (x % 32) (b % 32) then word 1 else word 2)
-        ≡ word (if p then 0 else if eqb (x % 32) (beside (a % 32) (b % 32)) then 1 else 2)
-    go true e = refl
-    go false e = rw (beside-says (a % 32) (b % 32) (x % 32) (omega arith) e) (pick (eqb (x % 32) (b % 32)))
+    pick : (p q : Bool) → (if p then word 0 else if q then word 1 else word 2) ≡ word (if p then 0 else if q then 1 else 2)
+    pick true q = refl
+    pick false true = refl
+    pick false false = refl
 
 -- ## The trace
 
@@ -106,31 +99,29 @@ module _ (template : ℕ) (low : 1 ≤ template) (high : template ≤ 24) where
   unfolding automaton
   known-automaton = rw (inside 1 template 24 low high)
 
-  module _ (a b : ℕ) where
-    -- b as the automaton sees it
-    other : ℕ
-    other = beside (activity a) (activity b)
-
-    shifted-from : (r : Replayer) (k : ℕ) (trace : List ℕ) → k < 8 → shift-of r ≡ 8 * k
-        → shift-of (advance-all (moves-of (words template) a b) r trace) ≡ 8 * follow template (activity a) other k (map activity trace)
-    unfolding other
-    shifted-from r k [] small here = here
-    shifted-from r k (x ∷ trace) small here =
-        let moves = moves-of (words template) a b in
-        let l = letter (activity a) other (activity x) in
-        let few = letter-small (activity a) other (activity x) in
-        shifted-from (advance moves r x) (next-of template k l) trace (next-small k l small few)
-        (ap₂ shift-after (chosen (moves-word template) (verdicts-word template) a b x) here ∙ moved k l small few)
+  module _ (a b : ℕ) (small-a : a < 32) (small-b : b < 32) where
+    shifted-from : (r : Replayer) (k : ℕ) (trace : List ℕ) → k < 8 → shift-of r ≡ 8 * k → all (λ x. ltb x 32) trace ≡ true
+        → shift-of (advance-all (moves-of (words template) a b) r trace) ≡ 8 * follow template a b k trace
+    shifted-from r k [] small here within = here
+    shifted-from r k (x ∷ trace) small here within =
+        let rest = all (λ x. ltb x 32) trace in
+        let l = letter a b x in
+        let few = letter-small a b x in
+        shifted-from (advance (moves-of (words template) a b) r x) (next-of template k l) trace (next-small k l small few)
+        (ap₂ shift-after
+        (chosen (moves-word template) (verdicts-word template) a b x small-a small-b (ltb-true x 32 (and-left (ltb x 32) rest within))) here
+        ∙ moved k l small few)
+        (and-right (ltb x 32) rest within)
 
     -- what shifting tells is the verdict of the state that the trace leads to
-    pub shifted : (trace : List ℕ)
+    pub shifted : (trace : List ℕ) → all (λ x. ltb x 32) trace ≡ true
         → verdict-by (automaton template .verdicts) (advance-all (moves-of (automaton template) a b) start trace)
-        ≡ verdict-of template (follow template (activity a) (beside (activity a) (activity b)) 0 (map activity trace))
-    unfolding other verdict-of
-    shifted trace =
-        let k = follow template (activity a) other 0 (map activity trace) in
-        let small = follow-small (activity a) other 0 (map activity trace) (omega arith) in
+        ≡ verdict-of template (follow template a b 0 trace)
+    unfolding verdict-of
+    shifted trace within =
+        let k = follow template a b 0 trace in
+        let small = follow-small a b 0 trace (omega arith) in
         ap (λ (m : Automaton). verdict-by (m .verdicts) (advance-all (moves-of m a b) start trace)) known-automaton
-        ∙ ap (λ n. told (verdicts-word template / 2 ^ n % 64)) (shifted-from start 0 trace (omega arith) refl)
+        ∙ ap (λ n. told (verdicts-word template / 2 ^ n % 64)) (shifted-from start 0 trace (omega arith) refl within)
         ∙ ap told
         (eqb-true (verdicts-word template / 2 ^ (8 * k) % 64) (getD state-verdicts (8 * (template - 1) + k) 0) (at-every-state verdict-right all-verdicts-right template k low high small))

@@ -117,9 +117,9 @@ abbrev pub stepped : Summary → ℕ → Summary
 stepped s event = with-event s (eqb event (s .a)) (eqb event (s .b))
 
 -- after a trace
-abbrev pub after : Summary → List ℕ → Summary
-after s [] = s
-after s (event ∷ trace) = after (stepped s event) trace
+abbrev pub stepped-all : Summary → List ℕ → Summary
+stepped-all s [] = s
+stepped-all s (event ∷ trace) = stepped-all (stepped s event) trace
 
 -- whether each template holds, by its number, from 0 on
 abbrev pub answers : Summary → List Bool

@@ -10,24 +10,23 @@ use Rattle.declare.specs.declared.Verdict.{Verdict}
 use Rattle.declare.specs.declared.Verdict.the-variants.{Fulfilled, NotActivated, Violated}
 use Rattle.declare.specs.declared.Automaton.{Automaton}
 use Rattle.declare.specs.declared.Replayer.{Replayer}
-use Rattle.base.specs.Logic.{if_then_else_}
+use Rattle.base.specs.Logic.{if_then_else_, in-range}
 use Rattle.base.specs.Lists.{range, flat-map}
-use Rattle.declare.specs.Meaning.{between}
 
 -- ## The automata
 
 -- A state: where an a, a b and any other event lead to, and the verdict on a trace that ends here.
-pub record State : Type 0 where
+pub record AutomatonState : Type 0 where
   pub on-a : ℕ
   pub on-b : ℕ
   pub on-other : ℕ
   pub verdict : Verdict
 
-abbrev pub to : ℕ → ℕ → ℕ → Verdict → State
+abbrev pub to : ℕ → ℕ → ℕ → Verdict → AutomatonState
 to on-a on-b on-other verdict = record { on-a = on-a; on-b = on-b; on-other = on-other; verdict = verdict }
 
 -- the templates' automata in the order of their numbers, 1 to 24; the first state, number 0, is the start
-unfoldable pub automata : List (List State)
+unfoldable pub automata : List (List AutomatonState)
 automata =
     -- Existence(1, 2, 3)
     (to 1 0 0 Violated ∷ to 1 1 1 Fulfilled ∷ []) ∷
@@ -65,14 +64,14 @@ automata =
     []
 
 -- a state of a template's automaton, by its number; a number of the eight that no trace leads to stands for the start
-unfoldable pub state-of : ℕ → ℕ → State
+unfoldable pub state-of : ℕ → ℕ → AutomatonState
 unfolding automata
 state-of template k =
     let states = getD automata (template - 1) [] in
     getD states k (getD states 0 (to 0 0 0 NotActivated))
 
 -- where a letter (0 for a, 1 for b, 2 for any other) leads from a state
-abbrev pub led : State → ℕ → ℕ
+abbrev pub led : AutomatonState → ℕ → ℕ
 led s letter = getD (s .on-a ∷ s .on-b ∷ s .on-other ∷ []) letter 0
 
 -- ## The tables, flat and in bytes: 24 templates, 8 states, and in the first one 3 letters (a, b, any other), in that order
@@ -150,7 +149,7 @@ no-automaton = record { a = 0; b = 0; other = 0; verdicts = 1 }
 unfoldable pub automaton : ℕ → Automaton
 unfolding moves-word verdicts-word
 automaton template =
-    if between 1 template 24
+    if in-range 1 template 24
     then record { a = moves-word template 0; b = moves-word template 1; other = moves-word template 2; verdicts = verdicts-word template }
     else no-automaton
 

@@ -29,8 +29,12 @@ constraints n =
 -- ## The same by membership and order
 
 -- what the constraints over n activities are
-abbrev pub Over : ℕ → Constraint → Type 0
-Over n c = (1 ≤ c .template) × (c .template ≤ 24) × (c .a < n) × (c .b < n) × (pairs (c .template) (c .a) (c .b) ≡ true)
+pub record Over (n : ℕ) (c : Constraint) : Type 0 where
+  pub from-1 : 1 ≤ c .template
+  pub to-24 : c .template ≤ 24
+  pub a-declared : c .a < n
+  pub b-declared : c .b < n
+  pub paired : pairs (c .template) (c .a) (c .b) ≡ true
 
 -- the stated order, in which nothing stands twice: template, then a, then b, rising
 abbrev pub Precedes : Constraint → Constraint → Type 0

@@ -1,13 +1,13 @@
 -- What the 24 templates mean on a trace of activities (document 01: a run of steps), after its section of that name.
 -- Assumes nothing.
-use Prim.Native.Nat.{ℕ, suc, _%_}
+use Prim.Native.Nat.{ℕ, suc}
 use mathlib.Core.Bool.{Bool, true, false, not, _&&_, _||_}
 use mathlib.Core.List.{List, [], _∷_, _++_}
 use lib.Dec.{eqb, leb}
 use lib.ListN.{getD}
 use Rattle.declare.specs.declared.Verdict.{Verdict}
 use Rattle.declare.specs.declared.Verdict.the-variants.{Fulfilled, NotActivated, Violated}
-use Rattle.base.specs.Logic.{_implies_, if_then_else_}
+use Rattle.base.specs.Logic.{_implies_, if_then_else_, in-range}
 
 -- A test of a place of a trace: of what comes before it, the activity there, and what comes after it.
 abbrev pub Test : Type 0
@@ -125,16 +125,13 @@ unfoldable pub holds : ℕ → Meaning
 unfolding meanings
 holds template a b trace = getD (never ∷ meanings) template never a b trace
 
-abbrev pub between : ℕ → ℕ → ℕ → Bool
-between low n high = leb low n && leb n high
-
 -- 1 to 10 always; 13 to 16 when a occurs; 17 to 19 when b occurs; 11, 12 and 20 to 24 when a or b occurs
 abbrev pub activated-when : ℕ → Bool → Bool → Bool
 activated-when template a-occurs b-occurs =
-    if between 1 template 10 then true
-    else if between 13 template 16 then a-occurs
-    else if between 17 template 19 then b-occurs
-    else if between 11 template 24 then a-occurs || b-occurs
+    if in-range 1 template 10 then true
+    else if in-range 13 template 16 then a-occurs
+    else if in-range 17 template 19 then b-occurs
+    else if in-range 11 template 24 then a-occurs || b-occurs
     else false
 
 unfoldable pub activated : ℕ → Meaning
@@ -148,13 +145,3 @@ fulfilled template a b trace = activated template a b trace && holds template a 
 unfoldable pub verdict : ℕ → ℕ → ℕ → List ℕ → Verdict
 verdict template a b trace =
     if activated template a b trace then (if holds template a b trace then Fulfilled else Violated) else NotActivated
-
--- ## Any numbers, for `replay`
-
--- an activity is a number below 32; any other number is taken by its remainder
-abbrev pub activity : ℕ → ℕ
-activity n = n % 32
-
--- b as it is taken beside a: where it is a itself, a number that no event has
-abbrev pub beside : ℕ → ℕ → ℕ
-beside a b = if eqb a b then 32 else b

@@ -1,5 +1,5 @@
-// DECLARE templates on one trace (document 01: a run): the replayer, and the verdict for a template and two activities. The constraints
-// of all templates, and the walk over them, are in a module that is public so that other crates can cite the laws below it.
+// DECLARE templates on one trace (document 01: a run): their automata, and the replayer. The constraints of all templates, and the walk over
+// them, are in a module that is public so that other crates can cite the laws below it.
 pub mod constraints;
 mod tables;
 
@@ -9,9 +9,8 @@ pub use constraints::first_constraint;
 pub use constraints::next_constraint;
 ghost use Prim.Native.Nat.{_+_, _*_, _<_, _≤_};
 ghost use mathlib.Core.Path.{_≡_};
-ghost use mathlib.Core.List.{map, _∷_, []};
+ghost use mathlib.Core.List.{_∷_, []};
 ghost use lib.ListN.{length};
-ghost use Rattle.declare.specs.Meaning.{verdict, activity, beside};
 ghost use Rattle.declare.specs.Automata.{next-states, state-verdicts, packed as packed-from, moves-word, verdicts-word as verdicts-of, automaton, no-automaton as none, moves-of, start, advance, advance-all, verdict-by};
 
 // What a trace is for a constraint (document 01: a run for a rule): fulfilled, not activated (01: idle), or violated (01: broken).
@@ -174,14 +173,4 @@ pub fn replay_by(moves: &[u64; 32], verdicts: u64, trace: &[u8]) -> Verdict
         at += 1;
     }
     replayer.verdict(verdicts)
-}
-
-// The verdict on a whole trace. Any bytes and any numbers: activities are taken by their remainder by 32, and where b is then a, it is as
-// if b never occurred. (In a constraint of templates 9 to 24 b is not a, and for 1 to 8 b does not matter.)
-pub fn replay(template: u8, a: u8, b: u8, trace: &[u8]) -> Verdict
-    ensures { λ r. ⌜ r ≡ verdict template (activity a) (beside (activity a) (activity b)) (map activity (now (trace .entry))) ⌝ }
-{
-    let automaton = automaton_of(template);
-    let moves = moves(automaton, a, b);
-    replay_by(&moves, automaton.verdicts, trace)
 }

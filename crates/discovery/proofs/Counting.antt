@@ -13,7 +13,6 @@ use Rattle.base.specs.Logic.{if_then_else_}
 use Rattle.declare.specs.declared.Verdict.the-variants.{Fulfilled, NotActivated, Violated}
 use Rattle.declare.specs.declared.constraints.Constraint.{Constraint}
 use Rattle.declare.specs.Meaning.{activated, holds, fulfilled, verdict}
-use Rattle.declare.specs.Automata.{automaton, moves-of}
 use Rattle.declare.specs.Constraints.{Over}
 use Rattle.declare.proofs.Following.{followed-constraint}
 use Rattle.eventlog.specs.Store.{Memory, cut, kept, last-from, last-end, rising, all-below, sound}
@@ -21,7 +20,7 @@ use Rattle.eventlog.proofs.Laws.{sound-facts, kept-declared, Rises, rising-fact
 use Rattle.base.specs.Lists.{non-empty, filter, count}
 use Rattle.base.proofs.Lists.{part-slice, all-filter, count-same, count-filter}
 use Rattle.discovery.specs.Question.{fulfilments}
-use Rattle.discovery.specs.Passes.{is-fulfilled, replays-fulfilled}
+use Rattle.discovery.specs.Passes.{is-fulfilled, replays-fulfilled, MovesFor}
 
 verdict-fulfilled : (t a b : ℕ) (trace : List ℕ) → is-fulfilled (verdict t a b trace) ≡ fulfilled t a b trace
 unfolding fulfilled verdict
@@ -34,17 +33,16 @@ verdict-fulfilled t a b trace = go (activated t a b trace) (holds t a b trace)
 
 -- by a constraint's own moves and verdicts, and over a sound memory's traces, replay says so for as many as are fulfilled
 pub replay-counts :
-    (m : Memory) (c : Constraint) (moves : List ℕ) (verdicts : ℕ) → sound m ≡ true → Over (m .store .activities) c →
-    moves ≡ moves-of (automaton (c .template)) (c .a) (c .b) → verdicts ≡ automaton (c .template) .verdicts →
+    (m : Memory) {c : Constraint} {moves : List ℕ} {verdicts : ℕ} → sound m ≡ true → Over (m .store .activities) c → MovesFor c moves verdicts →
     count (replays-fulfilled moves verdicts) (filter non-empty (kept m)) ≡ fulfilments (filter non-empty (kept m)) c
 unfolding fulfilments
-replay-counts m c moves verdicts h over e f =
+replay-counts m {c = c} {moves = moves} {verdicts = verdicts} h over moves-are =
     let n = m .store .activities in
     count-same (all-below n) (replays-fulfilled moves verdicts) (fulfilled (c .template) (c .a) (c .b)) (filter non-empty (kept m))
     (all-filter (all-below n) non-empty (kept m) (kept-declared m h))
     (λ trace declared.
-    ap₂ (λ moves verdicts. replays-fulfilled moves verdicts trace) e f
-    ∙ ap is-fulfilled (followed-constraint n c (sound-facts m h .few-activities) over trace declared)
+    ap₂ (λ moves verdicts. replays-fulfilled moves verdicts trace) (moves-are .same-moves) (moves-are .same-verdicts)
+    ∙ ap is-fulfilled (followed-constraint n c over trace declared (sound-facts m h .few-activities))
     ∙ verdict-fulfilled (c .template) (c .a) (c .b) trace)
 
 -- ## Along the ends
@@ -75,9 +73,9 @@ pub record Counting (p : List ℕ → Bool) (events ends : List ℕ) (traces so-
   pub rises : rising from (drop k (take traces ends)) ≡ true
   pub within : last-from from (drop k (take traces ends)) ≤ length events
 
-pub counting-start : (p : List ℕ → Bool) (m : Memory) → sound m ≡ true → Counting p (m .events) (m .ends) (m .store .traces) 0 0 0
+pub counting-start : {p : List ℕ → Bool} (m : Memory) → sound m ≡ true → Counting p (m .events) (m .ends) (m .store .traces) 0 0 0
 unfolding last-end
-counting-start p m h =
+counting-start m h =
     let s = sound-facts m h in
     record { has-ends = s .has-ends; few-traces = s .few-traces; few = omega arith; in-store = omega arith; counted = omega arith; rises = s .rises; within = s .fits }
 
@@ -95,7 +93,7 @@ few-on : (t : Bool) (so-far k : ℕ) → so-far ≤ k → (if t then so-far + 1 
 few-on true so-far k h = omega arith
 few-on false so-far k h = omega arith
 
-module _ (p : List ℕ → Bool) (events ends : List ℕ) (traces so-far from k : ℕ) (w : Counting p events ends traces so-far from k) where
+module _ {p : List ℕ → Bool} {events ends : List ℕ} {traces so-far from k : ℕ} (w : Counting p events ends traces so-far from k) where
   pub counting-done : traces ≤ k → so-far ≡ count p (filter non-empty (cut 0 (take traces ends) events))
   counting-done past =
       let none : drop k (take traces ends) ≡ [] =

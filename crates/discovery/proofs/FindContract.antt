@@ -5,31 +5,32 @@ use mathlib.Core.Path.{_≡_, refl, sym, ap, _∙_}
 use mathlib.Core.Bool.{Bool, true, false}
 use mathlib.Core.List.{List, [], _∷_}
 use native.Mathlib.Omega.{arith}
-use borrow.Author.Tests.{ltb-true, ltb-false, lt-ltb, le-ltb, ne-eqb}
-use lib.Dec.{ltb}
+use borrow.Author.Tests.{ltb-true, ltb-false, lt-ltb, le-ltb, ne-eqb, not-false}
+use lib.Dec.{eqb, ltb}
 use lib.ListN.{length}
-use Rattle.base.specs.Logic.{if_then_else_}
 use Rattle.base.specs.Checks.{Reply, gives, refused, reply}
-use Rattle.base.proofs.Checks.{given-new, refused-old}
+use Rattle.base.specs.Logic.{if_then_else_}
+use Rattle.base.proofs.Checks.{None-fail}
+use Rattle.base.proofs.Outcomes.{outcome-refused, outcome-accepted}
 use Rattle.base.proofs.Lists.{count-at-most}
 use Rattle.base.proofs.Stores.{sets-none}
 use Rattle.eventlog.specs.Store.{Memory, sound}
 use Rattle.discovery.specs.declared.Fit.the-variants.{Fits, Short}
 use Rattle.discovery.specs.declared.list.Tally.{Tally}
-use Rattle.discovery.specs.declared.FindAnswer.the-variants.{Listed, Refused}
+use Rattle.discovery.specs.declared.Settings.{Settings}
 use Rattle.declare.specs.Constraints.{constraints}
 use Rattle.discovery.specs.Question.{Question, asked, trace-count, is-listed, listed, replayed, numbers}
-use Rattle.discovery.specs.Calls.{Finds, in-range, checks-of-find, find-values, with-list}
+use Rattle.discovery.specs.Calls.{threshold-in-range, Finds, find-checks, checks-of-find, find-values, with-list}
 use Rattle.discovery.specs.Passes.{Passes, none-yet, fit-of}
 
 -- ## Passing over all constraints
 
-module _ (q : Question) (list list′ : List ℕ) (t : Tally) (p : Passes q (constraints (q .activities)) none-yet list t list′) where
+module _ {q : Question} {list list′ : List ℕ} {t : Tally} (p : Passes q (constraints (q .activities)) none-yet list t list′) where
   pub passed-listed : t .listed ≡ length (listed q)
   unfolding listed
   passed-listed = omega (arith, p .listed)
 
-  pub passed-replayed : t .replayed ≡ replayed q
+  pub passed-replayed : t .replayed ≡ length (replayed q)
   unfolding replayed
   passed-replayed = omega (arith, p .replayed)
 
@@ -71,32 +72,39 @@ all-fit q list fits = list-fits _ list (omega (arith, count-at-most (is-listed q
 
 -- ## Answers
 
-module _ (m : Memory) (threshold : ℕ) (list : List ℕ) where
-  abbrev pub said : Reply
-  said = reply (checks-of-find m threshold list) (find-values (asked m threshold))
+-- what is known where the first three checks of find pass
+pub record Findable (m : Memory) (settings : Settings) : Type 0 where
+  pub is-sound : sound m ≡ true
+  pub ranged : threshold-in-range settings ≡ true
+  pub some : trace-count (asked m settings) ≡ 0 → ⊥
 
-  pub finds-refused : (number detail : ℕ) → said ≡ refused number detail → Finds m threshold list (Refused (record { number = number; detail = detail })) list
-  finds-refused number detail e = record { says = sym e; leaves = sym (refused-old (checks-of-find m threshold list) _ number detail e _ _) }
+module _ (m : Memory) (settings : Settings) (list : List ℕ) (f : Findable m settings)
+    (k : ℕ) (e : k ≡ length (listed (asked m settings))) where
+  abbrev said : Reply
+  said = reply (checks-of-find m settings list) (find-values (asked m settings))
 
-  -- the first three checks passed, and so many constraints are to be listed
-  module _ (h : sound m ≡ true) (good : in-range threshold ≡ true) (some : trace-count (asked m threshold) ≡ 0 → ⊥)
-      (k : ℕ) (e : k ≡ length (listed (asked m threshold))) where
-    pub finds-short : length list < numbers * k → Finds m threshold list (Refused (record { number = 10; detail = k })) list
-    finds-short short =
-        finds-refused 10 k
-        (rw e (simp (h, good, ne-eqb (trace-count (asked m threshold)) 0 some, lt-ltb (length list) _ (rw e at short))))
+  pub finds-short : length list < numbers * k → Finds m settings list (refused 10 k) list
+  finds-short short =
+      let not-none = ne-eqb (trace-count (asked m settings)) 0 (f .some) in
+      let says : said ≡ refused 10 k = rw e (simp (f .is-sound, f .ranged, not-none, lt-ltb (length list) _ (rw e at short))) in
+      outcome-refused (sym says) refl
 
-    says-listed : numbers * k ≤ length list → said ≡ gives (find-values (asked m threshold))
-    says-listed fits = simp (h, good, ne-eqb (trace-count (asked m threshold)) 0 some, le-ltb (length list) _ (rw e at fits))
+  pub finds-listed :
+      numbers * k ≤ length list → (t : Tally) (list′ : List ℕ) (traces : ℕ) → traces ≡ trace-count (asked m settings) →
+      Passes (asked m settings) (constraints (m .store .activities)) none-yet list t list′ →
+      Finds m settings list (gives (t .listed ∷ t .replayed ∷ traces ∷ [])) list′
+  finds-listed fits t list′ traces same p =
+      let q = asked m settings in
+      let not-none = ne-eqb (trace-count q) 0 (f .some) in
+      let says : said ≡ gives (find-values q) = simp (f .is-sound, f .ranged, not-none, le-ltb (length list) _ (rw e at fits)) in
+      let values : t .listed ∷ t .replayed ∷ traces ∷ [] ≡ find-values q = cc (passed-listed p, passed-replayed p, same) in
+      outcome-accepted (ap gives values ∙ sym says) refl (passed-written p)
 
-    pub finds-listed :
-        numbers * k ≤ length list → (t : Tally) (list′ : List ℕ) (traces : ℕ) → traces ≡ trace-count (asked m threshold) →
-        Passes (asked m threshold) (constraints (m .store .activities)) none-yet list t list′ →
-        Finds m threshold list (Listed (record { constraints = t .listed; replayed = t .replayed; traces = traces })) list′
-    finds-listed fits t list′ traces same p =
-        let q = asked m threshold in
-        let values : t .listed ∷ t .replayed ∷ traces ∷ [] ≡ find-values q = cc (passed-listed q _ _ _ p, passed-replayed q _ _ _ p, same) in
-        record {
-          says = ap gives values ∙ sym (says-listed fits);
-          leaves = passed-written q _ _ _ p ∙ sym (given-new (checks-of-find m threshold list) _ _ (says-listed fits) _ _);
-        }
+-- what is known where every check of find passes
+pub record FindPassed (q : Question) (list : List ℕ) : Type 0 where
+  pub ranged : threshold-in-range (q .settings) ≡ true
+  pub some : eqb (trace-count q) 0 ≡ false
+  pub fits : numbers * length (listed q) ≤ length list
+
+pub find-passed : (q : Question) (list : List ℕ) → None-fail (find-checks q list) → FindPassed q list
+find-passed q list (ranged, (some, (fits, _))) = record { ranged = not-false _ ranged; some = some; fits = ltb-false _ _ fits }

@@ -6,7 +6,6 @@ use mathlib.Core.List.{List, [], _∷_}
 use native.Mathlib.Omega.{arith}
 use native.Mathlib.Nat.{mul-le-mul}
 use lib.ListN.{length}
-use Rattle.base.specs.Lists.{filter}
 use Rattle.base.proofs.Lists.{count-weaker, count-at-most}
 use Rattle.declare.specs.declared.constraints.Constraint.{Constraint}
 use Rattle.declare.specs.Constraints.{constraints, Exactly}
@@ -21,18 +20,18 @@ pub listed-exactly : (q : Question) → Exactly (q .activities) (is-listed q) (l
 unfolding listed
 listed-exactly q = filter-exactly (q .activities) _
 
--- the constraints that pruning keeps, as many as are replayed
-pub replayed-exactly : (q : Question) → (ks : List Constraint) × Exactly (q .activities) (survives q) ks × (replayed q ≡ length ks)
+-- exactly those that pruning keeps are replayed
+pub replayed-exactly : (q : Question) → Exactly (q .activities) (survives q) (replayed q)
 unfolding replayed
-replayed-exactly q = (filter (survives q) (constraints (q .activities)), filter-exactly (q .activities) _, refl)
+replayed-exactly q = filter-exactly (q .activities) _
 
 -- no more are replayed than there are constraints, 14 n n - 6 n
-pub replayed-at-most : (q : Question) → AtMostAll (q .activities) (replayed q)
+pub replayed-at-most : (q : Question) → AtMostAll (q .activities) (length (replayed q))
 unfolding replayed
 replayed-at-most q = omega (arith, count-at-most (survives q) (constraints (q .activities)), constraints-number (q .activities))
 
 -- what is listed was replayed
-pub listed-within-replayed : (q : Question) → length (listed q) ≤ replayed q
+pub listed-within-replayed : (q : Question) → length (listed q) ≤ length (replayed q)
 unfolding listed replayed
 listed-within-replayed q = count-weaker _ _ (listed-survives q) (constraints (q .activities))
 

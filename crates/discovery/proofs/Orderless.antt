@@ -13,6 +13,7 @@ use Rattle.base.specs.Logic.{if_then_else_}
 use Rattle.declare.specs.Meaning.{fulfilled}
 use Rattle.declare.specs.declared.constraints.Constraint.{Constraint}
 use Rattle.base.specs.Lists.{non-empty, filter, count, flat-map, equal-lists}
+use Rattle.discovery.specs.declared.Settings.{Settings}
 use Rattle.discovery.specs.Question.{Question, question-over, trace-count, meets-threshold, fulfilments, class-of, support, always, survives, is-listed, layout}
 use Rattle.discovery.specs.Claims.{Alike}
 use Rattle.base.proofs.Lists.{equal-lists-same, equal-lists-refl, count-cons, count-filter, count-none, permuted-length, permuted-count}
@@ -99,12 +100,14 @@ alike-just-permuted xs ys = (λ h. ∣ alike-permuted xs ys h ∣₁, λ d t som
 -- questions over alike traces
 pub record AlikeQuestions (q q′ : Question) : Type 0 where
   pub activities : q .activities ≡ q′ .activities
-  pub threshold : q .threshold ≡ q′ .threshold
+  pub settings : q .settings ≡ q′ .settings
   pub traces : List·Permᴰ (q .traces) (q′ .traces)
 
 pub question-over-alike :
-    {n n′ t t′ : ℕ} (xs ys : List (List ℕ)) → n ≡ n′ → t ≡ t′ → Alike xs ys → AlikeQuestions (question-over n xs t) (question-over n′ ys t′)
-question-over-alike xs ys same-n same-t alike = record { activities = same-n; threshold = same-t; traces = alike-permuted xs ys alike }
+    {n n′ : ℕ} {s s′ : Settings} (xs ys : List (List ℕ)) → n ≡ n′ → s ≡ s′ → Alike xs ys →
+    AlikeQuestions (question-over n xs s) (question-over n′ ys s′)
+question-over-alike xs ys same-n same-settings alike =
+    record { activities = same-n; settings = same-settings; traces = alike-permuted xs ys alike }
 
 module _ (q q′ : Question) (alike : AlikeQuestions q q′) where
   pub trace-count-alike : trace-count q ≡ trace-count q′
@@ -118,14 +121,14 @@ module _ (q q′ : Question) (alike : AlikeQuestions q q′) where
   unfolding support
   same-support = fun-ext (λ c. permuted-count _ (alike .traces))
 
-  meets-alike : (x y : ℕ) → x ≡ y → meets-threshold q x ≡ meets-threshold q′ y
-  meets-alike x y e = cc (alike .threshold, trace-count-alike)
+  meets-alike : {x y : ℕ} → x ≡ y → meets-threshold q x ≡ meets-threshold q′ y
+  meets-alike e = cc (ap (λ (s : Settings). s .threshold) (alike .settings), trace-count-alike)
 
   pub is-listed-alike : is-listed q ≡ is-listed q′
-  is-listed-alike = fun-ext (λ c. meets-alike _ _ (ap (λ f. f c) same-fulfilments))
+  is-listed-alike = fun-ext (λ c. meets-alike (ap (λ f. f c) same-fulfilments))
 
   pub survives-alike : survives q ≡ survives q′
-  survives-alike = fun-ext (λ c. ap (λ p. always (class-of (c .template)) || p) (meets-alike _ _ (ap (λ f. f c) same-support)))
+  survives-alike = fun-ext (λ c. ap (λ p. always (class-of (c .template)) || p) (meets-alike (ap (λ f. f c) same-support)))
 
   pub layout-alike : (cs : List Constraint) → layout q cs ≡ layout q′ cs
   unfolding layout

@@ -10,8 +10,12 @@ use Rattle.declare.specs.declared.Verdict.{Verdict}
 use Rattle.declare.specs.declared.Verdict.the-variants.{Fulfilled, NotActivated, Violated}
 use Rattle.declare.specs.Meaning.{meanings, holds, activated, fulfilled, verdict}
 use Rattle.declare.specs.Constraints.{constraints}
+use Rattle.discovery.specs.declared.Settings.{Settings}
 use Rattle.discovery.specs.Question.{Question, question-over, meets, fulfilments, support, listed, replayed, layout}
 use Rattle.discovery.specs.Calls.{find-checks, find-values}
+
+abbrev by : ℕ → Settings
+by threshold = record { threshold = threshold }
 
 -- A row of the table.
 pub data Row : Type 0 where
@@ -35,12 +39,12 @@ table =
     on (0 ∷ 1 ∷ 0 ∷ 1 ∷ []) ((21, Fulfilled) ∷ (22, Fulfilled) ∷ (5, Violated) ∷ []) ∷
     on (2 ∷ []) ((12, NotActivated) ∷ (13, NotActivated) ∷ []) ∷
     counted 3 2 ((666, true) ∷ (667, false) ∷ []) ∷
-    replies (question-over 1 ([] ∷ []) 1000) [] (refused 11 0) ∷
+    replies (question-over 1 ([] ∷ []) (by 1000)) [] (refused 11 0) ∷
     []
 
 pub sample : List Row
 sample =
-    finds (question-over 2 ((0 ∷ []) ∷ []) 1000)
+    finds (question-over 2 ((0 ∷ []) ∷ []) (by 1000))
     (
     1 ∷ 0 ∷ 0 ∷ 1 ∷
     4 ∷ 1 ∷ 1 ∷ 1 ∷
@@ -88,16 +92,16 @@ pub sample-holds : all-by-definition sample ≡ sample
 unfolding sample constraints fulfilments support listed replayed layout verdict fulfilled activated holds meanings
 sample-holds = refl
 
-pub two-runs : find-values (question-over 2 ((0 ∷ 1 ∷ []) ∷ (0 ∷ 0 ∷ 1 ∷ []) ∷ []) 1000) ≡ 18 ∷ 44 ∷ 2 ∷ []
+pub two-runs : find-values (question-over 2 ((0 ∷ 1 ∷ []) ∷ (0 ∷ 0 ∷ 1 ∷ []) ∷ []) (by 1000)) ≡ 18 ∷ 44 ∷ 2 ∷ []
 unfolding constraints fulfilments support listed replayed layout fulfilled activated holds meanings
 two-runs = refl
 
 -- beside a trace of length 1 two empty ones count for nothing, though 4 holds on them and 1, 7 and 8 do not
 pub empty-ones : List Row
 empty-ones =
-    finds (question-over 1 ([] ∷ (0 ∷ []) ∷ [] ∷ []) 1000)
+    finds (question-over 1 ([] ∷ (0 ∷ []) ∷ [] ∷ []) (by 1000))
     (1 ∷ 0 ∷ 0 ∷ 1 ∷ 5 ∷ 0 ∷ 0 ∷ 1 ∷ 6 ∷ 0 ∷ 0 ∷ 1 ∷ 7 ∷ 0 ∷ 0 ∷ 1 ∷ 8 ∷ 0 ∷ 0 ∷ 1 ∷ []) (5 ∷ 8 ∷ 1 ∷ []) ∷
-    replies (question-over 1 ([] ∷ [] ∷ []) 1) [] (refused 11 0) ∷
+    replies (question-over 1 ([] ∷ [] ∷ []) (by 1)) [] (refused 11 0) ∷
     []
 
 pub empty-ones-hold : all-by-definition empty-ones ≡ empty-ones

@@ -11,8 +11,10 @@ use Rattle.base.specs.Logic.{if_then_else_}
 use Rattle.declare.specs.declared.Verdict.{Verdict}
 use Rattle.declare.specs.declared.Verdict.the-variants.{Fulfilled, NotActivated, Violated}
 use Rattle.declare.specs.declared.constraints.Constraint.{Constraint}
-use Rattle.declare.specs.Automata.{start, advance-all, verdict-by}
-use Rattle.eventlog.specs.Store.{Memory}
+use Rattle.declare.specs.declared.Automaton.{Automaton}
+use Rattle.declare.specs.Automata.{automaton as automaton-of, moves-of, start, advance-all, verdict-by}
+use Rattle.declare.specs.Constraints.{Over}
+use Rattle.eventlog.specs.Store.{Memory, sound}
 use Rattle.discovery.specs.declared.Measure.{Measure}
 use Rattle.discovery.specs.declared.replay.Replayed.{Replayed}
 use Rattle.discovery.specs.declared.Fit.{Fit}
@@ -21,9 +23,21 @@ use Rattle.discovery.specs.declared.list.Tally.{Tally}
 use Rattle.base.specs.Lists.{filter, count}
 use Rattle.discovery.specs.Question.{Question, asked, trace-count, fulfilments, survives, is-listed, numbers, layout}
 
--- R is that of what is asked of the memory
-abbrev pub Measured : Memory → Measure → Type 0
-Measured m measure = measure .traces ≡ trace-count (asked m (measure .threshold))
+-- the memory is sound, and R is that of what is asked of it
+pub record Measured (m : Memory) (measure : Measure) : Type 0 where
+  pub is-sound : sound m ≡ true
+  pub counted : measure .traces ≡ trace-count (asked m (measure .settings))
+
+-- a constraint over the declared activities that pruning keeps, beside its template's automaton
+pub record Kept (q : Question) (automaton : Automaton) (c : Constraint) : Type 0 where
+  pub over : Over (q .activities) c
+  pub survived : survives q c ≡ true
+  pub of-template : automaton ≡ automaton-of (c .template)
+
+-- moves and verdicts are those of the constraint, by its template's automaton
+pub record MovesFor (c : Constraint) (moves : List ℕ) (verdicts : ℕ) : Type 0 where
+  pub same-moves : moves ≡ moves-of (automaton-of (c .template)) (c .a) (c .b)
+  pub same-verdicts : verdicts ≡ automaton-of (c .template) .verdicts
 
 -- a trace is fulfilled where the verdict says so
 abbrev pub is-fulfilled : Verdict → Bool
@@ -46,6 +60,11 @@ none-yet = record { listed = 0; replayed = 0 }
 -- no more than all constraints over n activities, 14 n n - 6 n
 abbrev pub AtMostAll : ℕ → ℕ → Type 0
 AtMostAll n k = k + 6 * n ≤ 14 * n * n
+
+-- so far no more than these are listed and replayed, so that no number can wrap
+pub record TallyFits (n : ℕ) (t : Tally) : Type 0 where
+  pub listed : AtMostAll n (t .listed)
+  pub replayed : AtMostAll n (t .replayed)
 
 -- passing over the constraints takes the tally and the slice to these: each listed one is written behind those before it
 pub record Passes (q : Question) (cs : List Constraint) (t : Tally) (list : List ℕ) (t′ : Tally) (list′ : List ℕ) : Type 0 where

@@ -5,28 +5,29 @@ use mathlib.Core.Bool.{Bool, true, false, _&&_, _||_}
 use mathlib.Core.List.{List, [], _∷_}
 use lib.Dec.{eqb, leb}
 use lib.ListN.{length}
-use Rattle.base.specs.Logic.{if_then_else_}
-use Rattle.declare.specs.Meaning.{occurs, fulfilled, between}
+use Rattle.base.specs.Logic.{if_then_else_, in-range}
+use Rattle.declare.specs.Meaning.{occurs, fulfilled}
 use Rattle.eventlog.specs.Store.{Memory, kept}
+use Rattle.discovery.specs.declared.Settings.{Settings}
 use Rattle.discovery.specs.declared.classes.Class.{Class}
 use Rattle.discovery.specs.declared.classes.Class.the-variants.{WithA, All, Either, Both}
 use Rattle.declare.specs.declared.constraints.Constraint.{Constraint}
 use Rattle.base.specs.Lists.{non-empty, filter, count, flat-map}
 use Rattle.declare.specs.Constraints.{constraints}
 
--- A question to the finder: how many activities are declared, the traces, and the threshold.
+-- A question to the finder: how many activities are declared, the traces, and the settings.
 pub record Question : Type 0 where
   pub activities : ℕ
   pub traces : List (List ℕ)
-  pub threshold : ℕ
+  pub settings : Settings
 
 -- R, all counts and the pruning numbers are taken over runs of length 1 or more: of the kept traces a question has those
-abbrev pub question-over : ℕ → List (List ℕ) → ℕ → Question
-question-over activities kept threshold = record { activities = activities; traces = filter non-empty kept; threshold = threshold }
+abbrev pub question-over : ℕ → List (List ℕ) → Settings → Question
+question-over activities kept settings = record { activities = activities; traces = filter non-empty kept; settings = settings }
 
 -- what find asks of a memory
-abbrev pub asked : Memory → ℕ → Question
-asked m threshold = question-over (m .store .activities) (kept m) threshold
+abbrev pub asked : Memory → Settings → Question
+asked m settings = question-over (m .store .activities) (kept m) settings
 
 -- how many traces a question has (document 01: R)
 abbrev pub trace-count : Question → ℕ
@@ -37,7 +38,7 @@ abbrev pub meets : ℕ → ℕ → ℕ → Bool
 meets threshold all number = leb (threshold * all) (1000 * number)
 
 abbrev pub meets-threshold : Question → ℕ → Bool
-meets-threshold q number = meets (q .threshold) (trace-count q) number
+meets-threshold q number = meets (q .settings .threshold) (trace-count q) number
 
 -- the traces fulfilled for a constraint
 unfoldable pub fulfilments : List (List ℕ) → Constraint → ℕ
@@ -46,9 +47,9 @@ fulfilments traces c = count (fulfilled (c .template) (c .a) (c .b)) traces
 -- the class of pruning, by the template's number; a number outside 1 to 24 is in the last one too
 abbrev pub class-of : ℕ → Class
 class-of template =
-    if between 1 template 3 || between 7 template 8 then WithA
-    else if between 4 template 6 then All
-    else if between 9 template 10 || eqb template 12 || between 23 template 24 then Either
+    if in-range 1 template 3 || in-range 7 template 8 then WithA
+    else if in-range 4 template 6 then All
+    else if in-range 9 template 10 || eqb template 12 || in-range 23 template 24 then Either
     else Both
 
 -- a trace counts for a class: it has a, whatever it is, it has a or b, it has both
@@ -82,10 +83,10 @@ unfoldable pub listed : Question → List Constraint
 unfolding constraints fulfilments
 listed q = filter (is-listed q) (constraints (q .activities))
 
--- how many constraints are replayed
-unfoldable pub replayed : Question → ℕ
+-- the constraints that are replayed, in their order
+unfoldable pub replayed : Question → List Constraint
 unfolding constraints support
-replayed q = count (survives q) (constraints (q .activities))
+replayed q = filter (survives q) (constraints (q .activities))
 
 -- four numbers a constraint
 abbrev pub numbers : ℕ

@@ -112,9 +112,9 @@ pub(crate) fn trace_count(store: Store, events: &[u8], ends: &[u32]) -> u32
 
 // 1000 times the number is at least the threshold times all; nothing is rounded.
 pub(crate) fn meets(measure: Measure, number: u32) -> bool
-    ensures { λ r. ⌜ r ≡ meets-test (measure .threshold) (measure .traces) number ⌝ }
+    ensures { λ r. ⌜ r ≡ meets-test (measure .settings .threshold) (measure .traces) number ⌝ }
 {
-    (measure.threshold as u64) * (measure.traces as u64) <= 1000 * (number as u64)
+    (measure.settings.threshold as u64) * (measure.traces as u64) <= 1000 * (number as u64)
 }
 
 // Whether a class is kept by pruning whatever its support.
@@ -138,10 +138,9 @@ pub(crate) fn survives(
     class: Class,
     c: Constraint,
 ) -> bool
-    requires { ⌜ sound (lent store events ends) ≡ true ⌝ }
     requires { ⌜ Measured (lent store events ends) measure ⌝ }
     requires { ⌜ class ≡ class-of (c .template) ⌝ }
-    ensures { λ r. ⌜ r ≡ survives-test (asked (lent store (events .entry) (ends .entry)) (measure .threshold)) c ⌝ }
+    ensures { λ r. ⌜ r ≡ survives-test (asked (lent store (events .entry) (ends .entry)) (measure .settings)) c ⌝ }
 {
     if always(class) {
         return true;

@@ -4,13 +4,12 @@ mod list;
 mod replay;
 
 ghost use mathlib.Core.Path.{_≡_};
-ghost use mathlib.Core.Bool.{true};
 ghost use lib.ListN.{length};
-ghost use Rattle.eventlog.specs.Store.{lent, sound};
+ghost use Rattle.eventlog.specs.Store.{lent};
 ghost use Rattle.discovery.specs.Question.{asked, listed};
-ghost use Rattle.discovery.specs.Calls.{Finds, in-range as in-range-test};
+ghost use Rattle.discovery.specs.Calls.{threshold-in-range, Finds, find-said};
 ghost use Rattle.discovery.specs.Passes.{Measured, fit-of};
-use eventlog::Refusal;
+use answers::Refusal;
 use eventlog::Store;
 
 // The numbers that a constraint takes in the list.
@@ -25,9 +24,14 @@ pub const LIST_TOO_SHORT: u8 = 10;
 
 pub const NO_TRACE: u8 = 11;
 
-// What a count is measured by: the threshold, and R, which is counted once a find.
-pub struct Measure {
+// What a find is asked by: the threshold (in the field: support), in thousandths.
+pub struct Settings {
     pub threshold: u32,
+}
+
+// What a count is measured by: the settings, and R, which is counted once a find.
+pub struct Measure {
+    pub settings: Settings,
     pub traces: u32,
 }
 
@@ -51,9 +55,8 @@ pub enum FindAnswer {
 
 // Looks whether the list fits, and leaves the slice as it was. Where there is room for all constraints, nothing is replayed for it.
 fn look(store: Store, events: &[u8], ends: &[u32], measure: Measure, list: &mut [u16]) -> Fit
-    requires { ⌜ sound (lent store events ends) ≡ true ⌝ }
     requires { ⌜ Measured (lent store events ends) measure ⌝ }
-    ensures { λ r. ⌜ r ≡ fit-of (length (listed (asked (lent store (events .entry) (ends .entry)) (measure .threshold)))) (now (list .entry)) ⌝ }
+    ensures { λ r. ⌜ r ≡ fit-of (length (listed (asked (lent store (events .entry) (ends .entry)) (measure .settings)))) (now (list .entry)) ⌝ }
     ensures { λ r. ⌜ now (list .exit) ≡ now (list .entry) ⌝ }
 {
     let all = declare::constraint_count(store.activities as u8);
@@ -68,40 +71,40 @@ fn look(store: Store, events: &[u8], ends: &[u32], measure: Measure, list: &mut 
     Fit::Fits
 }
 
-// Whether a threshold is one: 1 to 1000.
-pub fn in_range(threshold: u32) -> bool
-    ensures { λ r. ⌜ r ≡ in-range-test threshold ⌝ }
+// Whether the threshold is one: 1 to 1000.
+pub fn in_range(settings: Settings) -> bool
+    ensures { λ r. ⌜ r ≡ threshold-in-range settings ⌝ }
 {
-    1 <= threshold && threshold <= MOST_THRESHOLD
+    1 <= settings.threshold && settings.threshold <= MOST_THRESHOLD
 }
 
-fn refused(number: u8, detail: usize) -> FindAnswer
+pub fn refused(number: u8, detail: usize) -> FindAnswer
     ensures { λ r. ⌜ r ≡ FindAnswer.Refused (record { number = number; detail = detail }) ⌝ }
 {
     FindAnswer::Refused(Refusal { number, detail })
 }
 
-// Document 01's find, over any record, buffers, threshold and slice. What is needed is known before the first number is written.
+// Document 01's find, over any record, buffers, settings and slice. What is needed is known before the first number is written.
 pub fn find(
     store: Store,
     events: &[u8],
     ends: &[u32],
-    threshold: u32,
+    settings: Settings,
     list: &mut [u16],
 ) -> FindAnswer
-    ensures { λ r. ⌜ Finds (lent store (events .entry) (ends .entry)) threshold (now (list .entry)) r (now (list .exit)) ⌝ }
+    ensures { λ r. ⌜ Finds (lent store (events .entry) (ends .entry)) settings (now (list .entry)) (find-said r) (now (list .exit)) ⌝ }
 {
     if !eventlog::is_sound(store, events, ends) {
         return refused(eventlog::NOT_SOUND, 0);
     }
-    if !in_range(threshold) {
+    if !in_range(settings) {
         return refused(THRESHOLD_OUT_OF_RANGE, 0);
     }
     let traces = classes::trace_count(store, events, ends);
     if traces == 0 {
         return refused(NO_TRACE, 0);
     }
-    let measure = Measure { threshold, traces };
+    let measure = Measure { settings, traces };
     let fit = look(store, events, ends, measure, list);
     match fit {
         Fit::Short(needed) => {

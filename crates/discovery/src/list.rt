@@ -1,15 +1,14 @@
 // The list: passing over the constraints, and writing those to be listed.
 ghost use Prim.Native.Nat.{_*_};
 ghost use mathlib.Core.Path.{_≡_};
-ghost use mathlib.Core.Bool.{true};
 ghost use mathlib.Core.List.{[], _∷_};
 ghost use lib.ListN.{set};
 ghost use lib.Seq.{sets};
 ghost use Rattle.declare.specs.Automata.{automaton as automaton-of};
-ghost use Rattle.declare.specs.Constraints.{constraints, Over};
-ghost use Rattle.eventlog.specs.Store.{lent, sound};
-ghost use Rattle.discovery.specs.Question.{asked, numbers, survives as survives-test};
-ghost use Rattle.discovery.specs.Passes.{Measured, Passes, AtMostAll, none-yet};
+ghost use Rattle.declare.specs.Constraints.{constraints};
+ghost use Rattle.eventlog.specs.Store.{lent};
+ghost use Rattle.discovery.specs.Question.{asked, numbers};
+ghost use Rattle.discovery.specs.Passes.{Measured, Kept, Passes, TallyFits, none-yet};
 use crate::Measure;
 use crate::NUMBERS;
 use crate::classes;
@@ -56,8 +55,7 @@ fn at_hand(automaton: Automaton, known: u8, template: u8) -> Automaton
     declare::automaton_of(template)
 }
 
-// Passes over one constraint that pruning keeps: it is replayed, and written where its count meets the threshold. So far no more than
-// all constraints are listed and replayed, so that no number can wrap.
+// Passes over one constraint that pruning keeps: it is replayed, and written where its count meets the threshold.
 fn consider(
     store: Store,
     events: &[u8],
@@ -68,25 +66,15 @@ fn consider(
     automaton: Automaton,
     c: Constraint,
 ) -> Tally
-    requires { ⌜ sound (lent store events ends) ≡ true ⌝ }
     requires { ⌜ Measured (lent store events ends) measure ⌝ }
-    requires { ⌜ survives-test (asked (lent store events ends) (measure .threshold)) c ≡ true ⌝ }
-    requires { ⌜ Over (store .activities) c ⌝ }
-    requires { ⌜ automaton ≡ automaton-of (c .template) ⌝ }
-    requires { ⌜ (AtMostAll (store .activities) (tally .listed)) × (AtMostAll (store .activities) (tally .replayed)) ⌝ }
-    ensures { λ r. ⌜ Passes (asked (lent store (events .entry) (ends .entry)) (measure .threshold)) (c ∷ []) tally (now (list .entry)) r (now (list .exit)) ⌝ }
+    requires { ⌜ Kept (asked (lent store events ends) (measure .settings)) automaton c ⌝ }
+    requires { ⌜ TallyFits (store .activities) tally ⌝ }
+    ensures { λ r. ⌜ Passes (asked (lent store (events .entry) (ends .entry)) (measure .settings)) (c ∷ []) tally (now (list .entry)) r (now (list .exit)) ⌝ }
 {
-    let outcome = replay::replay(
-        store,
-        events,
-        ends,
-        measure.threshold,
-        automaton,
-        c,
-        tally.replayed,
-    );
-    let fulfilled = outcome.fulfilled;
-    let replayed = outcome.replayed;
+    let settings = measure.settings;
+    let replay = replay::replay(store, events, ends, settings, automaton, c, tally.replayed);
+    let fulfilled = replay.fulfilled;
+    let replayed = replay.replayed;
     if !classes::meets(measure, fulfilled) {
         return Tally {
             listed: tally.listed,
@@ -109,9 +97,8 @@ pub(crate) fn pass(
     measure: Measure,
     list: &mut [u16],
 ) -> Tally
-    requires { ⌜ sound (lent store events ends) ≡ true ⌝ }
     requires { ⌜ Measured (lent store events ends) measure ⌝ }
-    ensures { λ r. ⌜ Passes (asked (lent store (events .entry) (ends .entry)) (measure .threshold)) (constraints (store .activities)) none-yet (now (list .entry)) r (now (list .exit)) ⌝ }
+    ensures { λ r. ⌜ Passes (asked (lent store (events .entry) (ends .entry)) (measure .settings)) (constraints (store .activities)) none-yet (now (list .entry)) r (now (list .exit)) ⌝ }
 {
     let n = store.activities as u8;
     let all = declare::constraint_count(n);

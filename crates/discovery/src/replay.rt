@@ -1,12 +1,12 @@
 // Replay of a constraint over the store's traces.
 ghost use mathlib.Core.Path.{_≡_};
 ghost use mathlib.Core.Bool.{true};
-ghost use Rattle.base.specs.Lists.{non-empty};
-ghost use Rattle.declare.specs.Automata.{automaton as automaton-of, moves-of};
+ghost use Rattle.base.specs.Lists.{non-empty, filter};
 ghost use Rattle.declare.specs.Constraints.{Over};
-ghost use Rattle.eventlog.specs.Store.{lent, sound};
-ghost use Rattle.discovery.specs.Question.{asked, fulfilments, survives as survives-test};
-ghost use Rattle.discovery.specs.Passes.{replays-fulfilled, Replays, AtMostAll};
+ghost use Rattle.eventlog.specs.Store.{lent, sound, kept};
+ghost use Rattle.discovery.specs.Question.{asked, fulfilments};
+ghost use Rattle.discovery.specs.Passes.{replays-fulfilled, Kept, MovesFor, Replays, AtMostAll};
+use crate::Settings;
 use declare::Automaton;
 use declare::Constraint;
 use declare::Verdict;
@@ -30,23 +30,20 @@ fn is_fulfilled(moves: &[u64; 32], verdicts: u64, trace: &[u8]) -> bool
     }
 }
 
-// How many kept traces of length 1 or more are fulfilled for a constraint that pruning keeps. Each trace is handed on as the part of the
-// events from the end before to its own.
+// How many kept traces of length 1 or more are fulfilled for a constraint. Each trace is handed on as the part of the events from the end
+// before to its own.
 fn fulfilled_by(
     moves: &[u64; 32],
     verdicts: u64,
     store: Store,
     events: &[u8],
     ends: &[u32],
-    threshold: u32,
     c: Constraint,
 ) -> u32
-    requires { ⌜ now moves ≡ moves-of (automaton-of (c .template)) (c .a) (c .b) ⌝ }
-    requires { ⌜ verdicts ≡ automaton-of (c .template) .verdicts ⌝ }
+    requires { ⌜ MovesFor c (now moves) verdicts ⌝ }
     requires { ⌜ sound (lent store events ends) ≡ true ⌝ }
     requires { ⌜ Over (store .activities) c ⌝ }
-    requires { ⌜ survives-test (asked (lent store events ends) threshold) c ≡ true ⌝ }
-    ensures { λ r. ⌜ r ≡ fulfilments (asked (lent store (events .entry) (ends .entry)) threshold .traces) c ⌝ }
+    ensures { λ r. ⌜ r ≡ fulfilments (filter non-empty (kept (lent store (events .entry) (ends .entry)))) c ⌝ }
 {
     let traces = store.traces as usize;
     let mut fulfilled: u32 = 0;
@@ -70,28 +67,18 @@ pub(crate) fn replay(
     store: Store,
     events: &[u8],
     ends: &[u32],
-    threshold: u32,
+    settings: Settings,
     automaton: Automaton,
     c: Constraint,
     replayed: u32,
 ) -> Replayed
     requires { ⌜ sound (lent store events ends) ≡ true ⌝ }
-    requires { ⌜ survives-test (asked (lent store events ends) threshold) c ≡ true ⌝ }
-    requires { ⌜ Over (store .activities) c ⌝ }
-    requires { ⌜ automaton ≡ automaton-of (c .template) ⌝ }
+    requires { ⌜ Kept (asked (lent store events ends) settings) automaton c ⌝ }
     requires { ⌜ AtMostAll (store .activities) replayed ⌝ }
-    ensures { λ r. ⌜ Replays (asked (lent store (events .entry) (ends .entry)) threshold) c replayed r ⌝ }
+    ensures { λ r. ⌜ Replays (asked (lent store (events .entry) (ends .entry)) settings) c replayed r ⌝ }
 {
     let moves = declare::moves(automaton, c.a, c.b);
-    let fulfilled = fulfilled_by(
-        &moves,
-        automaton.verdicts,
-        store,
-        events,
-        ends,
-        threshold,
-        c,
-    );
+    let fulfilled = fulfilled_by(&moves, automaton.verdicts, store, events, ends, c);
     Replayed {
         fulfilled,
         replayed: replayed + 1,

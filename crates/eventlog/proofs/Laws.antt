@@ -13,9 +13,10 @@ use lib.Seq.{slice, length-sets, sets-eq, length-take-le, take-take, take-at, dr
 use Rattle.base.specs.Lists.{all}
 use Rattle.base.proofs.Lists.{all-append, all-take, all-drop}
 use Rattle.base.proofs.Bools.{and-left, and-right, and-both}
+use Rattle.base.proofs.Ranges.{range-facts}
 use Rattle.eventlog.specs.Store.{most-activities, most-traces, longest-trace, declarable, Memory, memory, cut, kept, total}
 use Rattle.eventlog.specs.Store.{last-from, last-end, rising, all-below, sound, room, after-traces}
-use Rattle.eventlog.specs.Calls.{with-trace}
+use Rattle.eventlog.specs.Calls.{empty, with-trace}
 
 -- ## A sound memory, by its facts
 
@@ -31,10 +32,6 @@ pub record Sound (m : Memory) : Type 0 where
   pub fits : last-end m ≤ length (m .events)
   pub declared : all-below (m .store .activities) (take (last-end m) (m .events)) ≡ true
 
-pub declared-range : (n : ℕ) → declarable n ≡ true → (1 ≤ n) × (n ≤ most-activities)
-declared-range n h =
-    (leb-true _ _ (and-left (leb 1 n) (leb n most-activities) h), leb-true _ _ (and-right (leb 1 n) (leb n most-activities) h))
-
 pub sound-facts : (m : Memory) → sound m ≡ true → Sound m
 unfolding sound
 sound-facts m h =
@@ -48,7 +45,7 @@ sound-facts m h =
     let h4 = and-left (range && few && has-ends && rises) fits h5 in
     let h3 = and-left (range && few && has-ends) rises h4 in
     let h2 = and-left (range && few) has-ends h3 in
-    let bounds = declared-range (m .store .activities) (and-left range few h2) in
+    let bounds = range-facts 1 (m .store .activities) most-activities (and-left range few h2) in
     record {
       some-activity = bounds .0;
       few-activities = bounds .1;
@@ -245,7 +242,7 @@ module _ (m : Memory) (trace : List ℕ) (h : sound m ≡ true) (a : Addable m t
 
 module _ (n : ℕ) (events ends : List ℕ) where
   abbrev pub fresh : Memory
-  fresh = memory (record { activities = n; traces = 0 }) events ends
+  fresh = memory (empty n) events ends
 
   pub fresh-kept : kept fresh ≡ []
   unfolding kept
@@ -254,7 +251,7 @@ module _ (n : ℕ) (events ends : List ℕ) where
   pub fresh-sound : declarable n ≡ true → sound fresh ≡ true
   unfolding last-end
   fresh-sound declared =
-      let range = declared-range n declared in
+      let range = range-facts 1 n most-activities declared in
       facts-sound fresh
       (record {
         some-activity = range .0;

@@ -1,3 +1,4 @@
 pub mod Adding
 pub mod Laws
+pub mod Traces
 pub mod Walks

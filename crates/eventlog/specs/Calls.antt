@@ -1,17 +1,17 @@
--- Open and add: what each replies and leaves, as definitions of what it was given. The contracts cite these.
+-- Open and add: what each says and leaves, as definitions of what it was given. The contracts cite these.
 -- Assumes nothing.
 use Prim.Native.Nat.{ℕ, _+_}
-use mathlib.Core.Path.{_≡_}
 use mathlib.Core.Bool.{not}
 use mathlib.Core.List.{List, [], _∷_}
 use lib.Dec.{ltb}
 use lib.ListN.{length, set}
 use lib.Seq.{sets}
-use Rattle.eventlog.specs.declared.OpenAnswer.{OpenAnswer}
-use Rattle.eventlog.specs.declared.AddAnswer.{AddAnswer}
-use Rattle.eventlog.specs.declared.Room.{Room}
 use Rattle.base.specs.Lists.{find-index}
-use Rattle.base.specs.Checks.{Check, _refuses_with_, Reply, gives, refused, reply, when-passed}
+use Rattle.base.specs.Checks.{Check, _refuses_with_, Reply, gives, Outcome}
+use Rattle.answers.specs.Answers.{refusal-said}
+use Rattle.eventlog.specs.declared.OpenAnswer.{OpenAnswer}
+use Rattle.eventlog.specs.declared.Room.{Room}
+use Rattle.eventlog.specs.declared.Store.{Store}
 use Rattle.eventlog.specs.Store.{longest-trace, declarable, Memory, last-end, sound, all-below, room, full, lacks}
 
 abbrev pub unsound : Memory → Check
@@ -22,14 +22,23 @@ unsound m = not (sound m) refuses 1 with 0
 abbrev pub open-checks : ℕ → List Check
 open-checks n = (not (declarable n) refuses 2 with 0) ∷ []
 
+-- an empty store
+abbrev pub empty : ℕ → Store
+empty n = record { activities = n; traces = 0 }
+
 -- document 01's number and values for each case
 abbrev pub open-said : OpenAnswer → Reply
 open-said (OpenAnswer.Opened store) = gives (store .activities ∷ store .traces ∷ [])
-open-said (OpenAnswer.Refused refusal) = refused (refusal .number) (refusal .detail)
+open-said (OpenAnswer.Refused refusal) = refusal-said refusal
 
--- `open(n)` answers so
-pub record Opens (n : ℕ) (answer : OpenAnswer) : Type 0 where
-  pub says : open-said answer ≡ reply (open-checks n) (n ∷ 0 ∷ [])
+-- the record after an open: a refused one leaves the record there was
+abbrev pub opened : Store → OpenAnswer → Store
+opened there (OpenAnswer.Opened store) = store
+opened there (OpenAnswer.Refused refusal) = there
+
+-- `open(n)`, whatever record there was
+abbrev pub Opens : ℕ → Store → Reply → Store → Type 0
+Opens n there = Outcome (open-checks n) (n ∷ 0 ∷ []) (empty n) there
 
 -- ## Add
 
@@ -58,11 +67,11 @@ with-trace m trace =
       ends = set (m .ends) (m .store .traces) (last-end m + length trace);
     }
 
-abbrev pub add-said : AddAnswer → Reply
-add-said AddAnswer.Added = gives []
-add-said (AddAnswer.Refused refusal) = refused (refusal .number) (refusal .detail)
+-- with several, one after the other
+abbrev pub with-traces : Memory → List (List ℕ) → Memory
+with-traces m [] = m
+with-traces m (trace ∷ traces) = with-traces (with-trace m trace) traces
 
--- `add` in memory m answers so, and leaves this memory
-pub record Adds (m : Memory) (trace : List ℕ) (answer : AddAnswer) (after : Memory) : Type 0 where
-  pub says : add-said answer ≡ reply (checks-of-add m trace) []
-  pub leaves : after ≡ when-passed (checks-of-add m trace) (with-trace m trace) m
+-- `add` in memory m
+abbrev pub Adds : Memory → List ℕ → Reply → Memory → Type 0
+Adds m trace = Outcome (checks-of-add m trace) [] (with-trace m trace) m

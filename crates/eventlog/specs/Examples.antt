@@ -8,7 +8,7 @@ use Rattle.eventlog.specs.Calls.{declared-front, add-checks}
 
 -- two activities declared, no trace kept, room for one trace of four events
 abbrev small : Room
-small = record { activities = 2; traces = 0; last = 0; events = 4; ends = 1 }
+small = record { activities = 2; traces = 0; last = 0; space = record { events = 4; ends = 1 } }
 
 -- undeclared at the first place, at the last, at both, at two in the middle, and nowhere; a trace with no room is refused for its place first
 places :

@@ -7,7 +7,9 @@ use lib.Dec.{eqb, leb, ltb}
 use lib.ListN.{length, take}
 use lib.Seq.{slice}
 use denote.Ref.{RefT, now}
+use Rattle.base.specs.Logic.{in-range}
 use Rattle.base.specs.Lists.{all}
+use Rattle.eventlog.specs.declared.Space.{Space}
 use Rattle.eventlog.specs.declared.Room.{Room}
 use Rattle.eventlog.specs.declared.Store.{Store}
 
@@ -32,6 +34,10 @@ memory store events ends = record { store = store; events = events; ends = ends 
 -- the memory of a record and of what stands behind two references: contracts speak of it so
 abbrev pub lent : Store → RefT (List ℕ) → RefT (List ℕ) → Memory
 lent store events ends = memory store (now events) (now ends)
+
+-- another record beside the same buffers
+abbrev pub with-store : Store → Memory → Memory
+with-store store m = memory store (m .events) (m .ends)
 
 -- the traces that the ends cut off, the first of them from `from`
 abbrev pub cut : ℕ → List ℕ → List ℕ → List (List ℕ)
@@ -68,7 +74,7 @@ all-below n xs = all (λ x. ltb x n) xs
 
 -- N is 1 to 32
 abbrev pub declarable : ℕ → Bool
-declarable n = leb 1 n && leb n most-activities
+declarable n = in-range 1 n most-activities
 
 -- N is 1 to 32; the run count is at most 4095 and the ends slice's length; no end is below the one before it (0 before the first) or
 -- more than 4096 above it; the last end is at most the step buffer's length; every kept step is below N
@@ -81,33 +87,26 @@ sound m =
     && leb (last-end m) (length (m .events))
     && all-below (m .store .activities) (take (last-end m) (m .events))
 
--- ## Room: the activities declared, the traces kept and their last end, and the lengths of the two buffers
+-- ## Space: the lengths of the two buffers. Room: the activities declared, the traces kept and their last end, and the space
+
+abbrev pub space : Memory → Space
+space m = record { events = length (m .events); ends = length (m .ends) }
 
 abbrev pub room : Memory → Room
-room m =
-    record {
-      activities = m .store .activities;
-      traces = m .store .traces;
-      last = last-end m;
-      events = length (m .events);
-      ends = length (m .ends);
-    }
+room m = record { activities = m .store .activities; traces = m .store .traces; last = last-end m; space = space m }
+
+-- a room with other traces and another last end
+abbrev pub with-kept : Room → ℕ → ℕ → Room
+with-kept r traces last = record { activities = r .activities; traces = traces; last = last; space = r .space }
 
 -- the room that is left after these traces
 abbrev pub after-traces : Room → List (List ℕ) → Room
-after-traces r traces =
-    record {
-      activities = r .activities;
-      traces = r .traces + length traces;
-      last = r .last + total traces;
-      events = r .events;
-      ends = r .ends;
-    }
+after-traces r traces = with-kept r (r .traces + length traces) (r .last + total traces)
 
 -- run count already 4095 or the ends slice's length
 abbrev pub full : Room → Bool
-full r = eqb (r .traces) most-traces || eqb (r .traces) (r .ends)
+full r = eqb (r .traces) most-traces || eqb (r .traces) (r .space .ends)
 
 -- steps don't fit, the last end plus the new steps being above the step buffer's length
 abbrev pub lacks : Room → ℕ → Bool
-lacks r more = ltb (r .events) (r .last + more)
+lacks r more = ltb (r .space .events) (r .last + more)

@@ -1,11 +1,14 @@
 // The store of traces (document 01: of runs): its record, whether it is sound, its room, open and add.
+use answers::DoneAnswer;
+use answers::Refusal;
 ghost use mathlib.Core.Path.{_≡_};
 ghost use mathlib.Core.List.{[]};
 ghost use Prim.Native.Nat.{_+_, _≤_};
 ghost use lib.ListN.{length};
 ghost use lib.Seq.{sets};
 ghost use Rattle.base.specs.Checks.{gives, reply};
-ghost use Rattle.eventlog.specs.Calls.{Adds, add-said, checks-of-add, declared-front, Opens, with-trace};
+ghost use Rattle.answers.specs.Answers.{done-said};
+ghost use Rattle.eventlog.specs.Calls.{Adds, checks-of-add, declared-front, open-said, opened, Opens, with-trace};
 ghost use Rattle.eventlog.specs.Store.{lent, last-from, last-kept, rising, sound, room, declarable as declarable-test, full as full-test};
 
 // The record: how many activities (document 01: steps, numbers below N) are declared, and how many traces are kept.
@@ -14,20 +17,18 @@ pub struct Store {
     pub traces: u32,
 }
 
-// What is left in a store: the activities declared, the traces kept and their last end, and the lengths of the two lent buffers. The events
-// (01: kept steps) lie in the first, the ends of the traces in the second.
-pub struct Room {
-    pub activities: u32,
-    pub traces: u32,
-    pub last: u32,
+// The lengths of the two lent buffers: the events (01: kept steps) lie in the first, the ends of the traces in the second.
+pub struct Space {
     pub events: usize,
     pub ends: usize,
 }
 
-// A refusal's number in document 01, and its detail.
-pub struct Refusal {
-    pub number: u8,
-    pub detail: usize,
+// What is left in a store: the activities declared, the traces kept and their last end, and the space.
+pub struct Room {
+    pub activities: u32,
+    pub traces: u32,
+    pub last: u32,
+    pub space: Space,
 }
 
 pub enum OpenAnswer {
@@ -35,14 +36,9 @@ pub enum OpenAnswer {
     Refused(Refusal),
 }
 
-pub enum AddAnswer {
-    Added,
-    Refused(Refusal),
-}
-
 pub struct AddResult {
     pub store: Store,
-    pub answer: AddAnswer,
+    pub answer: DoneAnswer,
 }
 
 pub const MOST_ACTIVITIES: u32 = 32;
@@ -73,7 +69,7 @@ pub fn declarable(n: u32) -> bool
 
 // The empty record for n declared activities.
 pub fn open(n: u32) -> OpenAnswer
-    ensures { λ r. ⌜ Opens n r ⌝ }
+    ensures { λ r. ⌜ ((there : Store) → Opens n there (open-said r) (opened there r)) ⌝ }
 {
     if !declarable(n) {
         return OpenAnswer::Refused(Refusal {
@@ -171,8 +167,10 @@ pub fn room_of(store: Store, events: &[u8], ends: &[u32]) -> Room
         activities: store.activities,
         traces: store.traces,
         last: last_end(store, ends),
-        events: events.len(),
-        ends: ends.len(),
+        space: Space {
+            events: events.len(),
+            ends: ends.len(),
+        },
     }
 }
 
@@ -180,37 +178,31 @@ pub fn room_of(store: Store, events: &[u8], ends: &[u32]) -> Room
 pub fn is_full(room: Room) -> bool
     ensures { λ r. ⌜ r ≡ full-test room ⌝ }
 {
-    room.traces == MOST_TRACES || room.traces as usize == room.ends
-}
-
-fn refused(number: u8, detail: usize) -> AddAnswer
-    ensures { λ r. ⌜ r ≡ AddAnswer.Refused (record { number = number; detail = detail }) ⌝ }
-{
-    AddAnswer::Refused(Refusal { number, detail })
+    room.traces == MOST_TRACES || room.traces as usize == room.space.ends
 }
 
 // What add answers. Nothing is written before this is known.
-fn add_answer(store: Store, events: &[u8], ends: &[u32], trace: &[u8]) -> AddAnswer
-    ensures { λ r. ⌜ add-said r ≡ reply (checks-of-add (lent store (events .entry) (ends .entry)) (now (trace .entry))) [] ⌝ }
+fn add_answer(store: Store, events: &[u8], ends: &[u32], trace: &[u8]) -> DoneAnswer
+    ensures { λ r. ⌜ done-said r ≡ reply (checks-of-add (lent store (events .entry) (ends .entry)) (now (trace .entry))) [] ⌝ }
 {
     if !is_sound(store, events, ends) {
-        return refused(NOT_SOUND, 0);
+        return answers::not_done(NOT_SOUND, 0);
     }
     let declared = declared_front(store.activities, trace);
     if declared < trace.len() {
-        return refused(UNDECLARED, declared + 1);
+        return answers::not_done(UNDECLARED, declared + 1);
     }
     if (LONGEST_TRACE as usize) < trace.len() {
-        return refused(TOO_LONG, 0);
+        return answers::not_done(TOO_LONG, 0);
     }
     let room = room_of(store, events, ends);
     if is_full(room) {
-        return refused(FULL, 0);
+        return answers::not_done(FULL, 0);
     }
-    if room.events - (room.last as usize) < trace.len() {
-        return refused(NO_SPACE, 0);
+    if room.space.events - (room.last as usize) < trace.len() {
+        return answers::not_done(NO_SPACE, 0);
     }
-    AddAnswer::Added
+    DoneAnswer::Done
 }
 
 fn copy_in(events: &mut [u8], at: usize, trace: &[u8])
@@ -243,12 +235,12 @@ fn append(store: Store, events: &mut [u8], ends: &mut [u32], trace: &[u8]) -> St
 // Appends a trace. A refused call changes no byte.
 pub fn add(store: Store, events: &mut [u8], ends: &mut [u32], trace: &[u8]) -> AddResult
     ensures { λ r.
-        ⌜ Adds (lent store (events .entry) (ends .entry)) (now (trace .entry)) (r .answer) (lent (r .store) (events .exit) (ends .exit)) ⌝ }
+        ⌜ Adds (lent store (events .entry) (ends .entry)) (now (trace .entry)) (done-said (r .answer)) (lent (r .store) (events .exit) (ends .exit)) ⌝ }
 {
     let answer = add_answer(store, events, ends, trace);
     match answer {
-        AddAnswer::Refused(_) => AddResult { store, answer },
-        AddAnswer::Added => AddResult {
+        DoneAnswer::Refused(_) => AddResult { store, answer },
+        DoneAnswer::Done => AddResult {
             store: append(store, events, ends, trace),
             answer,
         },

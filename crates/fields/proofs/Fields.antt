@@ -16,9 +16,10 @@ use Rattle.fields.specs.declared.Field.{Field}
 use Rattle.fields.specs.declared.Scan.{Scan}
 use Rattle.fields.specs.declared.Scan.the-variants.{Blanks}
 use Rattle.fields.specs.Field.{blank, is-digit, all-digits, numeral, well-formed, digit, value, digits-of, spell, widest, field-of}
-use Rattle.fields.specs.Scan.{scan-byte, scanned, so-far, finish, are-blanks, reached, Request4}
+use Rattle.fields.specs.Scan.{scan-byte, scanned, so-far, finish, are-blanks, reached, RunningValue}
 use Rattle.base.proofs.Lists.{all-last, from-last}
-use Rattle.base.proofs.Bools.{and-left, and-right, and-both, either, clash, agree, by-cases}
+use Rattle.base.proofs.Ranges.{inside, range-facts}
+use Rattle.base.proofs.Bools.{and-left, and-right, either, clash, agree, by-cases}
 
 -- ## Spelling, from the right
 
@@ -85,10 +86,7 @@ spell-short width n h =
 -- ## One column more
 
 pub digit-is : (d : ℕ) → is-digit d ≡ true → (48 ≤ d) × (d ≤ 57)
-digit-is d e = (leb-true 48 d (and-left (leb 48 d) (leb d 57) e), leb-true d 57 (and-right (leb 48 d) (leb d 57) e))
-
-is-a-digit : (d : ℕ) → 48 ≤ d → d ≤ 57 → is-digit d ≡ true
-is-a-digit d low high = and-both (leb 48 d) (leb d 57) (le-leb 48 d low) (le-leb d 57 high)
+digit-is d e = range-facts 48 d 57 e
 
 length-last : (xs : List ℕ) (d : ℕ) → length (xs ++ d ∷ []) ≡ suc (length xs)
 length-last xs d = omega (arith, length-append xs (d ∷ []))
@@ -187,7 +185,7 @@ pub record Spelled (n : ℕ) (bytes : List ℕ) : Type 0 where
 
 one-digit : (width n : ℕ) → n < 10 → Spelled n (replicate width blank ++ ((48 + n) ∷ []))
 one-digit width n h =
-    let d : is-digit (48 + n) ≡ true = is-a-digit (48 + n) (omega arith) (omega arith) in
+    let d : is-digit (48 + n) ≡ true = inside 48 (48 + n) 57 (omega arith) (omega arith) in
     let blanks = are-all-blanks width in
     let none = value-blanks (replicate width blank) blanks in
     record {
@@ -197,7 +195,7 @@ one-digit width n h =
 
 one-more : (bytes : List ℕ) (n : ℕ) → 10 ≤ n → Spelled (n / 10) bytes → Spelled n (bytes ++ ((48 + n % 10) ∷ []))
 one-more bytes n h s =
-    let d : is-digit (48 + n % 10) ≡ true = is-a-digit (48 + n % 10) (omega arith) (omega arith) in
+    let d : is-digit (48 + n % 10) ≡ true = inside 48 (48 + n % 10) 57 (omega arith) (omega arith) in
     let some : leb 1 (n / 10) ≡ true = le-leb 1 (n / 10) (omega arith) in
     record {
       formed = rw (formed-last bytes (48 + n % 10), s .formed, s .valued, some, d) (or-true (are-blanks bytes));
@@ -351,8 +349,8 @@ reached-fits columns h =
     rw (p, q) (omega (arith, value-bound columns q)))
     (λ q. rw (p, q) (omega arith)))
 
-pub request-4 : Request4
-request-4 =
+pub running-value : RunningValue
+running-value =
     record {
       by-places = scanned-reached;
       digits-read = digits-read;

@@ -5,7 +5,7 @@ use mathlib.Core.Bool.{Bool, false, not, _&&_}
 use mathlib.Core.List.{List, [], _∷_, _++_, reverse}
 use lib.Dec.{eqb, leb}
 use lib.ListN.{length, replicate}
-use Rattle.base.specs.Logic.{if_then_else_}
+use Rattle.base.specs.Logic.{if_then_else_, in-range}
 use Rattle.base.specs.Lists.{all}
 use Rattle.fields.specs.declared.Field.{Field}
 
@@ -16,7 +16,7 @@ abbrev pub line-feed : ℕ
 line-feed = 10
 
 abbrev pub is-digit : ℕ → Bool
-is-digit byte = leb 48 byte && leb byte 57
+is-digit byte = in-range 48 byte 57
 
 abbrev pub all-digits : List ℕ → Bool
 all-digits bytes = all is-digit bytes

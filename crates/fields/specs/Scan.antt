@@ -44,8 +44,8 @@ abbrev pub reached : List ℕ → Scan
 reached columns =
     if are-blanks columns then Blanks else if well-formed columns then Digits (value columns) else Broken
 
--- Request 4 of document 02, for fields of any width.
-pub record Request4 : Type 0 where
+-- Read with a running value (document 02, request 4), a field of any width comes to its digits and places.
+pub record RunningValue : Type 0 where
   -- "a field is to be read from the left with the value so far, ten times it plus the digit": so read, any columns lead where their
   -- digits and places say
   pub by-places : (columns : List ℕ) → scanned columns ≡ reached columns

@@ -1,21 +1,22 @@
 -- What a find shows over a ledger's traces is right, and an accepted one gives its list and numbers.
 -- Assumes nothing.
 use Prim.Native.Nat.{ℕ, _+_, _*_, _≤_}
-use mathlib.Core.Path.{_≡_, sym, ap, _∙_}
+use mathlib.Core.Path.{_≡_, refl, sym, ap, _∙_}
 use mathlib.Core.List.{List, [], _∷_, _++_}
 use native.Mathlib.Omega.{arith}
-use borrow.Author.Tests.{ltb-false}
 use lib.ListN.{length, take, drop}
 use lib.Seq.{sets, sets-eq, take-at}
 use Rattle.base.specs.Checks.{gives, reply}
 use Rattle.base.proofs.Checks.{given-new, given-values, when-passed-same}
-use Rattle.eventlog.specs.declared.Room.{Room}
+use Rattle.eventlog.specs.declared.Space.{Space}
 use Rattle.declare.specs.declared.constraints.Constraint.{Constraint}
-use Rattle.discovery.specs.Question.{Question, trace-count, listed, numbers, layout}
+use Rattle.discovery.specs.declared.Settings.{Settings}
+use Rattle.discovery.specs.Question.{Question, trace-count, listed, replayed, numbers, layout}
 use Rattle.discovery.specs.Calls.{checks-for}
+use Rattle.discovery.proofs.FindContract.{find-passed}
 use Rattle.discovery.proofs.Listing.{listed-exactly, replayed-exactly, replayed-at-most, layout-length}
 use Rattle.history.specs.Ledger.{find, Shown, Ledger, question, shows}
-use Rattle.history.specs.Histories.{Right}
+use Rattle.history.specs.Histories.{RightFind}
 
 -- the list laid out at the front of a slice that has room for it
 laid-out :
@@ -26,20 +27,19 @@ laid-out q cs list fits =
     sets-eq (layout q cs) list 0 (omega arith) ∙ ap (λ k. layout q cs ++ drop k list) same
 
 pub shows-right :
-    (space : Room) (l : Ledger) (threshold : ℕ) (list : List ℕ) → Right (question l threshold) list (shows space l (find threshold list))
-shows-right space l threshold list =
-    let q = question l threshold in
+    (lengths : Space) (l : Ledger) (settings : Settings) (list : List ℕ) → RightFind (question l settings) list (shows lengths l (find settings list))
+shows-right lengths l settings list =
+    let q = question l settings in
     let cs = listed q in
     let checks = checks-for (length cs) q list in
-    let (ks, kept-ks, number) = replayed-exactly q in
     record {
       listed = cs;
       exactly = listed-exactly q;
-      replayed = ks;
-      kept-by-pruning = kept-ks;
-      at-most = rw (← number) (replayed-at-most q);
-      said = ap (λ k. reply checks (length cs ∷ k ∷ trace-count q ∷ [])) number;
-      written = when-passed-same checks _ _ list (λ none. laid-out q cs list (ltb-false _ _ (none .1 .1 .0)));
+      replayed = replayed q;
+      kept-by-pruning = replayed-exactly q;
+      at-most = replayed-at-most q;
+      said = refl;
+      written = when-passed-same checks _ _ list (λ none. laid-out q cs list (find-passed q list none .fits));
     }
 
 -- an accepted find gives its numbers, and the list is at the front of its slice
@@ -48,7 +48,7 @@ pub record Gives (q : Question) (shown : Shown) (cs ks : List Constraint) : Type
   pub front : take (numbers * length cs) (shown .list) ≡ layout q cs
 
 pub right-gives :
-    (q : Question) (list : List ℕ) (shown : Shown) (right : Right q list shown) (values : List ℕ) → shown .said ≡ gives values →
+    (q : Question) (list : List ℕ) (shown : Shown) (right : RightFind q list shown) (values : List ℕ) → shown .said ≡ gives values →
     Gives q shown (right .listed) (right .replayed)
 right-gives q list shown right values given =
     let cs = right .listed in

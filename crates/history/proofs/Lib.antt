@@ -1,5 +1,5 @@
 pub mod CallSteps
-pub mod Demand3
+pub mod FollowsLedger
 pub mod Finds
 pub mod Outcomes
 pub mod Replies

@@ -7,40 +7,35 @@ use mathlib.Core.List.{List, [], _∷_, _++_}
 use mathlib.Core.Option.{some}
 use lib.ListN.{length, take, drop, getElem?}
 use Rattle.base.specs.Checks.{gives, refused, reply, when-passed}
-use Rattle.eventlog.specs.declared.Room.{Room}
-use Rattle.eventlog.specs.declared.OpenAnswer.{OpenAnswer}
-use Rattle.eventlog.specs.declared.AddAnswer.{AddAnswer}
-use Rattle.columns.specs.declared.ReadAnswer.{ReadAnswer}
-use Rattle.discovery.specs.declared.FindAnswer.{FindAnswer}
 use Rattle.declare.specs.declared.constraints.Constraint.{Constraint}
-use Rattle.eventlog.specs.Store.{Memory, sound, kept, room}
-use Rattle.eventlog.specs.Calls.{Opens, open-said, Adds, add-said}
-use Rattle.columns.specs.Calls.{Reads, read-said}
-use Rattle.discovery.specs.Question.{Question, trace-count, is-listed, survives, numbers, layout}
 use Rattle.declare.specs.Constraints.{Exactly}
+use Rattle.eventlog.specs.declared.Space.{Space}
+use Rattle.eventlog.specs.declared.Store.{Store}
+use Rattle.eventlog.specs.Store.{Memory, with-store, sound, kept, space, room}
+use Rattle.eventlog.specs.Calls.{Opens, Adds}
+use Rattle.columns.specs.Calls.{Reads}
+use Rattle.discovery.specs.declared.Settings.{Settings}
+use Rattle.discovery.specs.Question.{Question, trace-count, is-listed, survives, numbers, layout}
 use Rattle.discovery.specs.Claims.{Alike}
-use Rattle.discovery.specs.Calls.{checks-for, Finds, find-said}
-use Rattle.history.specs.Ledger.{Call, open-for, add, read, find, Shown, only, Ledger, first-ledger, room-beside, question, after, shows}
+use Rattle.discovery.specs.Calls.{checks-for, Finds}
+use Rattle.history.specs.Ledger.{Call, open-for, add, read, find, Shown, Ledger, first-ledger, room-beside, question, next-ledger, shows}
 
 -- ## Histories
-
--- a refused open leaves the record there was
-abbrev pub opened : Memory → OpenAnswer → Memory
-opened m (OpenAnswer.Opened store) = record { store = store; events = m .events; ends = m .ends }
-opened m (OpenAnswer.Refused refusal) = m
 
 -- One call in a memory: what it may show and leave is what its function's contract says, in the contract's own words. The functions of
 -- src/ promise just this.
 abbrev pub Called : Memory → Call → Shown → Memory → Type 0
-Called m (open-for n) s m′ = (answer : OpenAnswer) × Opens n answer × (s ≡ only (open-said answer)) × (m′ ≡ opened m answer)
-Called m (add trace) s m′ = (answer : AddAnswer) × Adds m trace answer m′ × (s ≡ only (add-said answer))
-Called m (read log) s m′ = (answer : ReadAnswer) × Reads m log answer m′ × (s ≡ only (read-said answer))
-Called m (find threshold list) s m′ =
-    (answer : FindAnswer) × Finds m threshold list answer (s .list) × (s .said ≡ find-said answer) × (m′ ≡ m)
+Called m (open-for n) s m′ = (store : Store) × Opens n (m .store) (s .said) store × (m′ ≡ with-store store m) × (s .list ≡ [])
+Called m (add trace) s m′ = Adds m trace (s .said) m′ × (s .list ≡ [])
+Called m (read log) s m′ = Reads m log (s .said) m′ × (s .list ≡ [])
+Called m (find settings list) s m′ = Finds m settings list (s .said) (s .list) × (m′ ≡ m)
 
 -- a fresh store: what an accepted open gives, beside buffers of any length and content
-abbrev pub Fresh : Memory → Type 0
-Fresh m = Opens (m .store .activities) (OpenAnswer.Opened (m .store))
+pub record Fresh (m : Memory) : Type 0 where
+  pub n : ℕ
+  pub there : Store
+  pub values : List ℕ
+  pub opens : Opens n there (gives values) (m .store)
 
 -- the calls, from a memory to the last memory: each call gets the memory that the one before left
 abbrev pub History : Memory → List Call → List Shown → Memory → Type 0
@@ -52,22 +47,22 @@ History m (c ∷ cs) (s ∷ ss) last = (m′ : Memory) × Called m c s m′ × H
 -- ## The ledger beside a history
 
 -- the ledger after the calls
-abbrev pub after-all : Room → Ledger → List Call → Ledger
+abbrev pub after-all : Space → Ledger → List Call → Ledger
 after-all space l [] = l
-after-all space l (c ∷ cs) = after-all space (after space l c) cs
+after-all space l (c ∷ cs) = after-all space (next-ledger space l c) cs
 
--- the ledger that is fed a fresh store's room, after the calls
+-- the ledger that is fed a fresh store's N and space, after the calls
 abbrev pub ledger-after : Memory → List Call → Ledger
-ledger-after m cs = after-all (room m) (first-ledger (room m)) cs
+ledger-after m cs = after-all (space m) (first-ledger (m .store .activities)) cs
 
 -- what the calls show, one after the other
-abbrev pub shows-all : Room → Ledger → List Call → List Shown
+abbrev pub shows-all : Space → Ledger → List Call → List Shown
 shows-all space l [] = []
-shows-all space l (c ∷ cs) = shows space l c ∷ shows-all space (after space l c) cs
+shows-all space l (c ∷ cs) = shows space l c ∷ shows-all space (next-ledger space l c) cs
 
--- what the ledger that is fed a fresh store's room says of the calls
+-- what the ledger that is fed a fresh store's N and space says of the calls
 abbrev pub ledger-shows : Memory → List Call → List Shown
-ledger-shows m cs = shows-all (room m) (first-ledger (room m)) cs
+ledger-shows m cs = shows-all (space m) (first-ledger (m .store .activities)) cs
 
 -- no call is refused under number 1
 abbrev pub Never-1 : List Shown → Type 0
@@ -75,7 +70,7 @@ Never-1 [] = Unit {0}
 Never-1 (s ∷ ss) = ((detail : ℕ) → s .said ≡ refused 1 detail → ⊥) × Never-1 ss
 
 -- the ledger's traces are those kept in a memory
-pub record Keeps (space : Room) (l : Ledger) (m : Memory) : Type 0 where
+pub record Keeps (space : Space) (l : Ledger) (m : Memory) : Type 0 where
   pub is-sound : sound m ≡ true
   pub traces : kept m ≡ l .traces
   pub same-room : room m ≡ room-beside space l
@@ -90,11 +85,11 @@ pub record FindIn : Type 0 where
   pub shown-before : List Shown
   pub memory : Memory
   pub history : History start before shown-before memory
-  pub threshold : ℕ
+  pub settings : Settings
   pub list : List ℕ
   pub shown : Shown
   pub memory′ : Memory
-  pub called : Called memory (find threshold list) shown memory′
+  pub called : Called memory (find settings list) shown memory′
 
 -- the ledger before it
 abbrev pub ledger-of : FindIn → Ledger
@@ -102,12 +97,12 @@ ledger-of f = ledger-after (f .start) (f .before)
 
 -- what it asks, by the ledger
 abbrev pub question-of : FindIn → Question
-question-of f = question (ledger-of f) (f .threshold)
+question-of f = question (ledger-of f) (f .settings)
 
 -- What a find shows. `listed` has exactly the constraints whose count meets the threshold and `replayed` exactly those that pruning
 -- keeps, each in the stated order and once. The find is refused as it says, a list too short with the number needed; or it gives the
 -- numbers, and the slice has the list laid out at its front, and after it what was there.
-pub record Right (q : Question) (list : List ℕ) (shown : Shown) : Type 0 where
+pub record RightFind (q : Question) (list : List ℕ) (shown : Shown) : Type 0 where
   pub listed : List Constraint
   pub exactly : Exactly (q .activities) (is-listed q) listed
   pub replayed : List Constraint
@@ -122,10 +117,10 @@ pub record Right (q : Question) (list : List ℕ) (shown : Shown) : Type 0 where
 abbrev pub Accepted : FindIn → Type 0
 Accepted f = (values : List ℕ) × (f .shown .said ≡ gives values)
 
--- two finds alike in N, threshold and kept traces of length 1 or more, whatever their order and however many empty ones either keeps
+-- two finds alike in N, settings and kept traces of length 1 or more, whatever their order and however many empty ones either keeps
 pub record AlikeFinds (f g : FindIn) : Type 0 where
   pub activities : ledger-of f .activities ≡ ledger-of g .activities
-  pub threshold : f .threshold ≡ g .threshold
+  pub settings : f .settings ≡ g .settings
   pub traces : Alike (ledger-of f .traces) (ledger-of g .traces)
 
 -- two finds give equal lists and numbers
@@ -138,28 +133,28 @@ pub record EqualFinds (f g : FindIn) : Type 0 where
   pub lists : take (numbers * listed) (f .shown .list) ≡ take (numbers * listed) (g .shown .list)
 
 -- A find of a history, behind the calls `before`: it is from the same start, and what it shows stands at its place among all that was shown.
-pub record FindAt (m : Memory) (before : List Call) (threshold : ℕ) (list : List ℕ) (ss : List Shown) : Type 0 where
+pub record FindAt (m : Memory) (before : List Call) (settings : Settings) (list : List ℕ) (ss : List Shown) : Type 0 where
   pub found : FindIn
   pub same-start : found .start ≡ m
   pub same-before : found .before ≡ before
-  pub same-threshold : found .threshold ≡ threshold
+  pub same-settings : found .settings ≡ settings
   pub same-list : found .list ≡ list
   pub shown-there : getElem? ss (length before) ≡ some (found .shown)
 
--- Demand 3: one claim about all histories.
-pub record Demand3 : Type 0 where
+-- Demand 3, one claim about all histories: they follow the ledger, and their finds are right.
+pub record FollowsLedger : Type 0 where
   -- every call is accepted, or refused under the same number and detail, as in the ledger
   pub agrees : (m last : Memory) (cs : List Call) (ss : List Shown) → Fresh m → History m cs ss last → ss ≡ ledger-shows m cs
   -- 1 never comes
   pub never-1 : (m last : Memory) (cs : List Call) (ss : List Shown) → Fresh m → History m cs ss last → Never-1 ss
   -- the ledger's traces are the kept ones
   pub keeps :
-      (m last : Memory) (cs : List Call) (ss : List Shown) → Fresh m → History m cs ss last → Keeps (room m) (ledger-after m cs) last
+      (m last : Memory) (cs : List Call) (ss : List Shown) → Fresh m → History m cs ss last → Keeps (space m) (ledger-after m cs) last
   -- every find of every history is one of those that the next two speak of
   pub every-find :
-      (m last : Memory) (before later : List Call) (threshold : ℕ) (list : List ℕ) (ss : List Shown) → Fresh m →
-      History m (before ++ (find threshold list ∷ later)) ss last → FindAt m before threshold list ss
+      (m last : Memory) (before later : List Call) (settings : Settings) (list : List ℕ) (ss : List Shown) → Fresh m →
+      History m (before ++ (find settings list ∷ later)) ss last → FindAt m before settings list ss
   -- every find gives the ledger's list and numbers, or is refused as the ledger says
-  pub right : (f : FindIn) → Right (question-of f) (f .list) (f .shown)
+  pub right : (f : FindIn) → RightFind (question-of f) (f .list) (f .shown)
   -- accepted finds that are alike give equal lists and numbers, in one history or in two
   pub alike : (f g : FindIn) → Accepted f → Accepted g → AlikeFinds f g → EqualFinds f g

@@ -2,5 +2,5 @@ pub mod Deciding
 pub mod Puts
 pub mod Reading
 pub mod Reporting
-pub mod SettingsLine
+pub mod Setting
 pub mod Whole

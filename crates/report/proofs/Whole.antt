@@ -14,16 +14,18 @@ use Rattle.base.proofs.Lists.{count-at-most}
 use Rattle.declare.specs.Meaning.{fulfilled}
 use Rattle.eventlog.specs.declared.Room.{Room}
 use Rattle.eventlog.specs.Store.{most-activities, declarable, kept}
-use Rattle.eventlog.proofs.Laws.{declared-range, kept-length, sound-facts}
+use Rattle.base.proofs.Ranges.{range-facts}
+use Rattle.eventlog.proofs.Laws.{kept-length, sound-facts}
 use Rattle.columns.specs.Log.{Line, Before, nothing-read, with-line, lines-within, lines, log-checks-from, log-checks, spelled}
-use Rattle.columns.specs.Calls.{with-traces}
+use Rattle.eventlog.specs.Calls.{with-traces}
 use Rattle.declare.specs.declared.constraints.Constraint.{Constraint}
+use Rattle.discovery.specs.declared.Settings.{Settings}
 use Rattle.discovery.specs.Question.{Question, fulfilments, listed, replayed}
 use Rattle.discovery.specs.Calls.{find-checks}
 use Rattle.discovery.proofs.Listing.{listed-exactly, replayed-at-most, listed-within-replayed, few-numbers}
 use Rattle.report.specs.Print.{number-width, detail-width}
-use Rattle.report.specs.Report.{most-input, lent-events, lent-ends, lent-list, log-of, activities-set, threshold-set}
-use Rattle.report.specs.Report.{log-question, question-set, room-lent, checks-to-read, checks-of-report, Lent, empty-store}
+use Rattle.report.specs.Report.{most-input, lent-space, lent-list, log-of, activities-set, settings-set}
+use Rattle.report.specs.Report.{log-question, question-set, room-lent, checks-to-read, checks-of-report, Arrays, empty-store}
 use Rattle.report.specs.Whole.{WholeLines, Whole}
 use Rattle.report.proofs.Reading.{Buffers, filled}
 
@@ -71,8 +73,8 @@ whole-log r log h = whole-lines r nothing-read 1 (lines log) (omega (arith, line
 -- ## A find's numbers
 
 module _ (q : Question) (few : q .activities ≤ most-activities) where
-  replayed-few : replayed q ≤ 14336
-  replayed-few = few-numbers (q .activities) (replayed q) few (replayed-at-most q)
+  replayed-few : length (replayed q) ≤ 14336
+  replayed-few = few-numbers (q .activities) (length (replayed q)) few (replayed-at-most q)
 
   listed-few : length (listed q) ≤ 14336
   listed-few = omega (arith, replayed-few, listed-within-replayed q)
@@ -97,7 +99,7 @@ whole-refusal input number detail =
             λ met.
                 each-append WholeRefusal (log-checks (room-lent n) log) (find-checks (question-set input) lent-list)
                 (whole-log (room-lent n) log (omega (arith, ltb-false most-input (length input) short, length-drop 8 input)))
-                (λ read. whole-find (question-set input) (declared-range n (not-false (declarable n) passes) .1)),
+                (λ read. whole-find (question-set input) (range-facts 1 n most-activities (not-false (declarable n) passes) .1)),
           ),
         ),
       ),
@@ -106,21 +108,21 @@ whole-refusal input number detail =
 -- ## The report
 
 -- some arrays that are lent
-unfoldable some-arrays : Lent
-some-arrays = record { events = replicate lent-events 0; ends = replicate lent-ends 0; list = [] }
+unfoldable some-arrays : Arrays
+some-arrays = record { events = replicate (lent-space .events) 0; ends = replicate (lent-space .ends) 0; list = [] }
 
 buffers : Buffers some-arrays
 unfolding some-arrays
-buffers = record { events = length-replicate {A = ℕ} lent-events 0; ends = length-replicate {A = ℕ} lent-ends 0 }
+buffers = record { events = length-replicate {A = ℕ} (lent-space .events) 0; ends = length-replicate {A = ℕ} (lent-space .ends) 0 }
 
-module _ (n threshold : ℕ) (log : List ℕ) (declared : declarable n ≡ true) (none : None-fail (log-checks (room-lent n) log)) where
+module _ (n : ℕ) (settings : Settings) (log : List ℕ) (declared : declarable n ≡ true) (none : None-fail (log-checks (room-lent n) log)) where
   abbrev q : Question
-  q = log-question n threshold log
+  q = log-question n settings log
 
   traces-few : length (q .traces) ≤ 4095
   traces-few =
       let m = with-traces (empty-store n some-arrays) (spelled log) in
-      let f = filled n threshold log declared some-arrays buffers none in
+      let f = filled n settings log declared some-arrays buffers none in
       omega (
         arith,
         kept-length m (f .is-sound),
@@ -135,7 +137,7 @@ module _ (n threshold : ℕ) (log : List ℕ) (declared : declarable n ≡ true)
 
   whole-report : WholeLines q
   whole-report =
-      let high = declared-range n declared .1 in
+      let high = range-facts 1 n most-activities declared .1 in
       record {
         constraints = omega (arith, listed-few q high);
         replays = omega (arith, replayed-few q high);
@@ -143,7 +145,7 @@ module _ (n threshold : ℕ) (log : List ℕ) (declared : declarable n ≡ true)
         each =
             λ c member.
             let over = (listed-exactly q .members c) .0 member .0 in
-            (omega (arith, over .1), omega (arith, over .2), omega (arith, over .3), omega (arith, fulfilled-few c));
+            (omega (arith, over .to-24), omega (arith, over .a-declared), omega (arith, over .b-declared), omega (arith, fulfilled-few c));
       }
 
 -- nothing that is printed is cut
@@ -156,7 +158,7 @@ whole input =
           λ passed.
           let n = activities-set input in
           let read = log-checks (room-lent n) (log-of input) in
-          let none = none-fail (checks-of-report input) [] [] passed in
-          whole-report n (threshold-set input) (log-of input) (not-false (declarable n) (none .1 .1 .0))
-          (none-fail-both read (find-checks (question-set input) lent-list) (none .1 .1 .1 .1) .0);
+          let (_, (_, (declared, (_, later)))) = none-fail (checks-of-report input) [] [] passed in
+          whole-report n (settings-set input) (log-of input) (not-false (declarable n) declared)
+          (none-fail-both read (find-checks (question-set input) lent-list) later .0);
     }

@@ -9,7 +9,7 @@ use Rattle.columns.specs.Log.{lines, log-checks, spelled}
 use Rattle.declare.specs.Constraints.{constraints}
 use Rattle.discovery.specs.Question.{fulfilments, support, listed, replayed}
 use Rattle.report.specs.Print.{refusal-line, first-line, constraint-line, found-text}
-use Rattle.report.specs.Report.{settings-laid-out, activities-set, threshold-set, lent-list, checks-to-read, checks-of-report, output-of}
+use Rattle.report.specs.Report.{settings-laid-out, activities-set, settings-set, lent-list, checks-to-read, checks-of-report, output-of}
 
 pub sample : List ℕ
 sample =
@@ -39,7 +39,7 @@ sample-printed =
 
 pub sample-prints : output-of sample ≡ sample-printed
 unfolding
-    sample sample-printed lent-list output-of checks-of-report checks-to-read settings-laid-out activities-set threshold-set found-text
+    sample sample-printed lent-list output-of checks-of-report checks-to-read settings-laid-out activities-set settings-set found-text
     first-line constraint-line refusal-line spell lines log-checks spelled constraints fulfilments support listed replayed
     fulfilled activated holds meanings
 sample-prints = refl
@@ -52,7 +52,7 @@ pub refusals-print :
     × (output-of (32 ∷ 32 ∷ 50 ∷ 49 ∷ 48 ∷ 48 ∷ 48 ∷ 10 ∷ 32 ∷ 32 ∷ 32 ∷ 32 ∷ 32 ∷ 49 ∷ 32 ∷ 32 ∷ 50 ∷ 10 ∷ []) ≡ 32 ∷ 54 ∷ 32 ∷ 32 ∷ 32 ∷ 32 ∷ 32 ∷ 49 ∷ 10 ∷ [])
     × (output-of (32 ∷ 32 ∷ 50 ∷ 49 ∷ 48 ∷ 48 ∷ 48 ∷ 10 ∷ []) ≡ 49 ∷ 49 ∷ 32 ∷ 32 ∷ 32 ∷ 32 ∷ 32 ∷ 48 ∷ 10 ∷ [])
 unfolding
-    lent-list output-of checks-of-report checks-to-read settings-laid-out activities-set threshold-set found-text
+    lent-list output-of checks-of-report checks-to-read settings-laid-out activities-set settings-set found-text
     first-line constraint-line refusal-line spell lines log-checks spelled constraints fulfilments support listed replayed
     fulfilled activated holds meanings
 refusals-print = (refl, refl, refl, refl, refl)

@@ -60,5 +60,5 @@ constraint-line template a b count =
 unfoldable pub found-text : Question → List ℕ
 unfolding first-line constraint-line
 found-text q =
-    first-line (length (listed q)) (replayed q) (trace-count q)
+    first-line (length (listed q)) (length (replayed q)) (trace-count q)
     ++ flat-map (listed q) λ c. constraint-line (c .template) (c .a) (c .b) (fulfilments (q .traces) c)

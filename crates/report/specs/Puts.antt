@@ -26,11 +26,11 @@ counted-at k list =
       count = getD list (numbers * k + 3) 0;
     }
 
-abbrev pub line-of : Counted → List ℕ
-line-of c = constraint-line (c .template) (c .a) (c .b) (c .count)
+abbrev pub printed-line : Counted → List ℕ
+printed-line c = constraint-line (c .template) (c .a) (c .b) (c .count)
 
 abbrev pub line-at : ℕ → List ℕ → List ℕ
-line-at k list = line-of (counted-at k list)
+line-at k list = printed-line (counted-at k list)
 
 -- the lines of a list's first constraints
 abbrev pub lines-of : ℕ → List ℕ → List ℕ

@@ -10,24 +10,22 @@ use lib.Seq.{slice}
 use denote.Ref.{RefT, now}
 use Rattle.base.specs.Checks.{Check, _refuses_with_, Reply, gives, refused, reply, when-passed}
 use Rattle.eventlog.specs.declared.Room.{Room}
-use Rattle.eventlog.specs.Store.{Memory}
-use Rattle.eventlog.specs.Calls.{open-checks}
+use Rattle.eventlog.specs.declared.Space.{Space}
+use Rattle.eventlog.specs.Store.{Memory, memory}
+use Rattle.eventlog.specs.Calls.{open-checks, empty, with-traces}
 use Rattle.fields.specs.Field.{line-feed, well-formed, value}
 use Rattle.columns.specs.Log.{log-checks, spelled}
-use Rattle.columns.specs.Calls.{with-traces}
+use Rattle.discovery.specs.declared.Settings.{Settings}
 use Rattle.discovery.specs.Question.{Question, question-over, numbers}
-use Rattle.discovery.specs.Calls.{threshold-check, find-checks, with-list}
+use Rattle.discovery.specs.Calls.{settings-checks, find-checks, with-list}
 use Rattle.report.specs.Print.{refusal-line, found-text}
 
 abbrev pub most-input : ℕ
 most-input = 65536
 
 -- what the program lends: 6552 events, 4095 ends and 8000 constraints
-abbrev pub lent-events : ℕ
-lent-events = 6552
-
-abbrev pub lent-ends : ℕ
-lent-ends = 4095
+abbrev pub lent-space : Space
+lent-space = record { events = 6552; ends = 4095 }
 
 abbrev pub lent-constraints : ℕ
 lent-constraints = 8000
@@ -46,18 +44,18 @@ settings-laid-out input =
 unfoldable pub activities-set : List ℕ → ℕ
 activities-set input = value (slice 0 3 input)
 
-unfoldable pub threshold-set : List ℕ → ℕ
-threshold-set input = value (slice 3 7 input)
+unfoldable pub settings-set : List ℕ → Settings
+settings-set input = record { threshold = value (slice 3 7 input) }
 
 abbrev pub log-of : List ℕ → List ℕ
 log-of input = drop 8 input
 
 -- what is asked over the traces that a log spells
-abbrev pub log-question : ℕ → ℕ → List ℕ → Question
-log-question n threshold log = question-over n (spelled log) threshold
+abbrev pub log-question : ℕ → Settings → List ℕ → Question
+log-question n settings log = question-over n (spelled log) settings
 
 abbrev pub question-set : List ℕ → Question
-question-set input = log-question (activities-set input) (threshold-set input) (log-of input)
+question-set input = log-question (activities-set input) (settings-set input) (log-of input)
 
 -- ## The order: 12, settings malformed or cut short (4, detail 0), 2, 3, then read, then find
 
@@ -67,7 +65,7 @@ then-find checks q = checks ++ find-checks q lent-list
 
 -- the log is read into an empty store, with the room of all that is lent
 abbrev pub room-lent : ℕ → Room
-room-lent n = record { activities = n; traces = 0; last = 0; events = lent-events; ends = lent-ends }
+room-lent n = record { activities = n; traces = 0; last = 0; space = lent-space }
 
 -- the checks of findrules up to its find
 unfoldable pub checks-to-read : List ℕ → List Check
@@ -75,7 +73,7 @@ checks-to-read input =
     (ltb most-input (length input) refuses 12 with 0) ∷
     (not (settings-laid-out input) refuses 4 with 0) ∷
     (open-checks (activities-set input)
-    ++ threshold-check (threshold-set input) ∷ log-checks (room-lent (activities-set input)) (log-of input))
+    ++ settings-checks (settings-set input) ++ log-checks (room-lent (activities-set input)) (log-of input))
 
 -- all of them
 unfoldable pub checks-of-report : List ℕ → List Check
@@ -97,29 +95,29 @@ output-of input = printed (reply (checks-of-report input) []) (found-text (quest
 -- ## The contract
 
 -- what is lent beside the output: the two buffers of a store, and the slice for the list
-pub record Lent : Type 0 where
+pub record Arrays : Type 0 where
   pub events : List ℕ
   pub ends : List ℕ
   pub list : List ℕ
 
 -- what stands behind three references: contracts speak of it so
-abbrev pub lent-arrays : RefT (List ℕ) → RefT (List ℕ) → RefT (List ℕ) → Lent
+abbrev pub lent-arrays : RefT (List ℕ) → RefT (List ℕ) → RefT (List ℕ) → Arrays
 lent-arrays events ends list = record { events = now events; ends = now ends; list = now list }
 
 -- the lent buffers as an empty store
-abbrev pub empty-store : ℕ → Lent → Memory
-empty-store n arrays = record { store = record { activities = n; traces = 0 }; events = arrays .events; ends = arrays .ends }
+abbrev pub empty-store : ℕ → Arrays → Memory
+empty-store n arrays = memory (empty n) (arrays .events) (arrays .ends)
 
 -- the memory with the log's traces, where these checks pass
-abbrev pub filled-by : List Check → ℕ → List ℕ → Lent → Memory
+abbrev pub filled-by : List Check → ℕ → List ℕ → Arrays → Memory
 filled-by checks n log arrays =
-    let empty = empty-store n arrays in
-    when-passed checks (with-traces empty (spelled log)) empty
+    let fresh = empty-store n arrays in
+    when-passed checks (with-traces fresh (spelled log)) fresh
 
 -- what is left: the buffers with the log's traces where these checks pass, and the list where the find's pass too
-abbrev pub left-by : List Check → ℕ → ℕ → List ℕ → Lent → Lent
-left-by checks n threshold log arrays =
-    let q = log-question n threshold log in
+abbrev pub left-by : List Check → ℕ → Settings → List ℕ → Arrays → Arrays
+left-by checks n settings log arrays =
+    let q = log-question n settings log in
     record {
       events = filled-by checks n log arrays .events;
       ends = filled-by checks n log arrays .ends;
@@ -127,7 +125,7 @@ left-by checks n threshold log arrays =
     }
 
 -- `report` writes so many bytes into `out`, and leaves the lent arrays so
-pub record Reports (input : List ℕ) (arrays : Lent) (out : List ℕ) (written : ℕ) (arrays′ : Lent) (out′ : List ℕ) : Type 0 where
+pub record Reports (input : List ℕ) (arrays : Arrays) (out : List ℕ) (written : ℕ) (arrays′ : Arrays) (out′ : List ℕ) : Type 0 where
   pub counts : written ≡ length (output-of input)
   pub prints : out′ ≡ output-of input ++ drop (length (output-of input)) out
-  pub leaves : arrays′ ≡ left-by (checks-to-read input) (activities-set input) (threshold-set input) (log-of input) arrays
+  pub leaves : arrays′ ≡ left-by (checks-to-read input) (activities-set input) (settings-set input) (log-of input) arrays

@@ -13,7 +13,7 @@ use Rattle.report.specs.Report.{question-set, checks-of-report}
 -- the numbers of the lines of a find
 pub record WholeLines (q : Question) : Type 0 where
   pub constraints : length (listed q) < 10 ^ first-width
-  pub replays : replayed q < 10 ^ first-width
+  pub replays : length (replayed q) < 10 ^ first-width
   pub all : trace-count q < 10 ^ first-width
   pub each :
       (c : Constraint) → List·Mem c (listed q) →

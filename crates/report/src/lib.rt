@@ -1,8 +1,8 @@
 // All that findrules does between its input and its output.
-use columns::ReadAnswer;
+use answers::CountAnswer;
 use discovery::FindAnswer;
+use discovery::Settings;
 use eventlog::OpenAnswer;
-use eventlog::Refusal;
 use eventlog::Store;
 use fields::Field;
 ghost use mathlib.Core.Path.{_≡_};
@@ -16,7 +16,7 @@ ghost use Rattle.columns.specs.Log.{log-checks};
 ghost use Rattle.discovery.specs.Question.{numbers};
 ghost use Rattle.report.specs.Print.{activity-width, refusal-line-size, first-line-size, constraint-line-size, refusal-line, first-line, second-field};
 ghost use Rattle.report.specs.Report.{room-lent, lent-arrays, Reports};
-ghost use Rattle.report.specs.Puts.{Puts, counted-at as counted-of, line-of, lines-of};
+ghost use Rattle.report.specs.Puts.{Puts, counted-at as counted-of, printed-line, lines-of};
 ghost use Rattle.report.specs.Stages.{settings-of, Decides, Decided, number-listed, answer-text};
 
 pub const MOST_INPUT: usize = 65536;
@@ -111,7 +111,7 @@ fn put_second(out: &mut [u8], at: usize, c: Counted) -> usize
 
 fn put_constraint(out: &mut [u8], at: usize, c: Counted) -> usize
     requires { ⌜ at + constraint-line-size ≤ length (now out) ⌝ }
-    ensures { λ r. ⌜ Puts (now (out .entry)) at constraint-line-size (line-of c) r (now (out .exit)) ⌝ }
+    ensures { λ r. ⌜ Puts (now (out .entry)) at constraint-line-size (printed-line c) r (now (out .exit)) ⌝ }
 {
     let after_template = put_number(out, at, TEMPLATE_WIDTH, c.template as usize);
     let after_a = put_number(out, after_template, ACTIVITY_WIDTH, c.a as usize);
@@ -153,39 +153,33 @@ fn put_refusal(out: &mut [u8], number: u8, detail: usize) -> usize
 }
 
 // What the settings line sets.
-enum Settings {
-    Set { activities: u32, threshold: u32 },
+enum SettingsLine {
+    Set { activities: u32, settings: Settings },
     Malformed,
 }
 
-fn read_settings(input: &[u8]) -> Settings
+fn read_settings(input: &[u8]) -> SettingsLine
     ensures { λ r. ⌜ r ≡ settings-of (now (input .entry)) ⌝ }
 {
     if input.len() < 8 || input[7] != fields::LINE_FEED {
-        return Settings::Malformed;
+        return SettingsLine::Malformed;
     }
     let Field::Number(activities) = fields::read_field(&input[..3]) else {
-        return Settings::Malformed;
+        return SettingsLine::Malformed;
     };
     let Field::Number(threshold) = fields::read_field(&input[3..7]) else {
-        return Settings::Malformed;
+        return SettingsLine::Malformed;
     };
-    Settings::Set {
+    SettingsLine::Set {
         activities,
-        threshold,
+        settings: Settings { threshold },
     }
-}
-
-fn refused(number: u8, detail: usize) -> FindAnswer
-    ensures { λ r. ⌜ r ≡ FindAnswer.Refused (record { number = number; detail = detail }) ⌝ }
-{
-    FindAnswer::Refused(Refusal { number, detail })
 }
 
 // The log is read into an empty store.
 fn read_and_find(
     store: Store,
-    threshold: u32,
+    settings: Settings,
     log: &[u8],
     events: &mut [u8; LENT_EVENTS],
     ends: &mut [u32; LENT_ENDS],
@@ -193,15 +187,15 @@ fn read_and_find(
 ) -> FindAnswer
     requires { ⌜ (declarable (store .activities) ≡ true) × (store .traces ≡ 0) ⌝ }
     ensures { λ r. ⌜ Decides (log-checks (room-lent (store .activities)) (now (log .entry)))
-        (store .activities) threshold (now (log .entry))
+        (store .activities) settings (now (log .entry))
         (lent-arrays (events .entry) (ends .entry) (list .entry)) r (lent-arrays (events .exit) (ends .exit) (list .exit)) ⌝ }
 {
     let result = columns::read(store, events, ends, log);
     let after = result.store;
     let answer = result.answer;
     match answer {
-        ReadAnswer::Added(_) => discovery::find(after, events, ends, threshold, list),
-        ReadAnswer::Refused(refusal) => FindAnswer::Refused(refusal),
+        CountAnswer::Count(_) => discovery::find(after, events, ends, settings, list),
+        CountAnswer::Refused(refusal) => FindAnswer::Refused(refusal),
     }
 }
 
@@ -216,21 +210,21 @@ fn decide(
         r (lent-arrays (events .exit) (ends .exit) (list .exit)) ⌝ }
 {
     if MOST_INPUT < input.len() {
-        return refused(TOO_MUCH_INPUT, 0);
+        return discovery::refused(TOO_MUCH_INPUT, 0);
     }
-    let Settings::Set {
+    let SettingsLine::Set {
         activities,
-        threshold,
+        settings,
     } = read_settings(input)
     else {
-        return refused(columns::MALFORMED, 0);
+        return discovery::refused(columns::MALFORMED, 0);
     };
     match eventlog::open(activities) {
         OpenAnswer::Opened(store) => {
-            if !discovery::in_range(threshold) {
-                return refused(discovery::THRESHOLD_OUT_OF_RANGE, 0);
+            if !discovery::in_range(settings) {
+                return discovery::refused(discovery::THRESHOLD_OUT_OF_RANGE, 0);
             }
-            read_and_find(store, threshold, &input[8..], events, ends, list)
+            read_and_find(store, settings, &input[8..], events, ends, list)
         }
         OpenAnswer::Refused(refusal) => FindAnswer::Refused(refusal),
     }

@@ -9,11 +9,11 @@ use lib.ListN.{length, getD, set, drop, length-map}
 use Rattle.base.specs.Lists.{range}
 use Rattle.base.proofs.Lists.{range-at, range-length}
 use Rattle.base.proofs.Stores.{front, front-here, front-on, front-all}
-use Rattle.watcher.specs.Calls.{Lent}
+use Rattle.watcher.specs.Calls.{Slots}
 use Rattle.watcher.specs.Loops.{each-of, put}
 
-module _ (table : List ℕ) (turn : ℕ → Lent → Lent) (count : ℕ) (new : ℕ → ℕ) (l₀ : Lent)
-    (each : (i : ℕ) (l : Lent) → i < count → getD (l .states) i 0 ≡ getD (l₀ .states) i 0 → turn i l ≡ put table i (new i) l)
+module _ (table : List ℕ) (turn : ℕ → Slots → Slots) (count : ℕ) (new : ℕ → ℕ) (l₀ : Slots)
+    (each : (i : ℕ) (l : Slots) → i < count → getD (l .states) i 0 ≡ getD (l₀ .states) i 0 → turn i l ≡ put table i (new i) l)
     (states-fit : count ≤ length (l₀ .states)) (told-fit : count ≤ length (l₀ .told)) where
   tell : ℕ → ℕ
   tell i = getD table (4 * new i + 3) 0
@@ -26,7 +26,7 @@ module _ (table : List ℕ) (turn : ℕ → Lent → Lent) (count : ℕ) (new : 
   listed-length f = length-map (range 0 count) f ∙ range-length 0 count
 
   -- the first so many are new
-  partly : ℕ → Lent
+  partly : ℕ → Slots
   partly at = record { states = front (listed new) at (l₀ .states); told = front (listed tell) at (l₀ .told) }
 
   turned : (at : ℕ) → at < count → turn at (partly at) ≡ partly (suc at)

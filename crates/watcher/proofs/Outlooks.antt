@@ -20,7 +20,7 @@ use Rattle.declare.proofs.Shifting.{at-every-state, next-small, follow-small}
 use Rattle.declare.proofs.Following.{follow-append, follow-holds-constraint}
 use Rattle.eventlog.specs.Store.{all-below}
 use Rattle.watcher.specs.Outlook.{holds-on, Every, Some, State}
-use Rattle.watcher.specs.Table.{holds-in, second, reaches, outlook-in, reached, outlook}
+use Rattle.watcher.specs.Table.{holds-in, second, reaches, outlook-in, state-number, outlook}
 
 -- ## The four exclude each other
 
@@ -98,13 +98,13 @@ settled-holds only template truth k h = go (holds-in template k) truth _ _ (not-
 module _ (n : ℕ) (c : Constraint) (over : Over n c) where
   -- a constraint on one activity repeats it
   repeats : leb (c .template) 8 ≡ true → c .a ≡ c .b
-  repeats h = eqb-true (c .a) (c .b) (rw h at (over .4))
+  repeats h = eqb-true (c .a) (c .b) (rw h at (over .paired))
 
   -- a constraint on two has two
   apart : leb (c .template) 8 ≡ false → c .a ≡ c .b → ⊥
   apart h same =
-      either (leb (c .template) 12) (λ k. omega (arith, ltb-true (c .a) (c .b) (rw (h, k) at (over .4))))
-      (λ k. eqb-false (c .a) (c .b) (not-true _ (rw (h, k) at (over .4))) same)
+      either (leb (c .template) 12) (λ k. omega (arith, ltb-true (c .a) (c .b) (rw (h, k) at (over .paired))))
+      (λ k. eqb-false (c .a) (c .b) (not-true _ (rw (h, k) at (over .paired))) same)
 
   letter-comes : (x : ℕ) → x < n → comes (eqb n 1) (c .template) (letter (c .a) (c .b) x) ≡ true
   letter-comes x small =
@@ -116,7 +116,7 @@ module _ (n : ℕ) (c : Constraint) (over : Over n c) where
   stays-at : (k letter : ℕ) → k < 8 → letter < 3 → stays (eqb n 1) (c .template) k letter ≡ true
   stays-at k letter small few =
       all-range (stays (eqb n 1) (c .template) k) 0 3 letter
-      (at-every-state (λ t k. all (stays (eqb n 1) t k) (range 0 3)) (all-stay (eqb n 1)) (c .template) k (over .0) (over .1) small) (omega arith) few
+      (at-every-state (λ t k. all (stays (eqb n 1) t k) (range 0 3)) (all-stay (eqb n 1)) (c .template) k (over .from-1) (over .to-24) small) (omega arith) few
 
   abbrev led-to : ℕ → List ℕ → ℕ
   led-to k more = follow (c .template) (c .a) (c .b) k more
@@ -137,7 +137,7 @@ module _ (n : ℕ) (c : Constraint) (over : Over n c) where
       let rest = all-below n more in
       let l = letter (c .a) (c .b) x in
       settled-stays truth (next-of (c .template) k l) more
-      (next-small (c .template) (over .0) (over .1) k l small (letter-small (c .a) (c .b) x))
+      (next-small (c .template) (over .from-1) (over .to-24) k l small (letter-small (c .a) (c .b) x))
       (and-right (ltb x n) rest within)
       (settled-on truth k x small (ltb-true x n (and-left (ltb x n) rest within)) h)
 
@@ -156,7 +156,7 @@ module _ (n : ℕ) (c : Constraint) (over : Over n c) where
       (either (eqb (c .a) 0)
       (λ e. rw e (omega arith, other 1 (λ g. omega (arith, eqb-true (c .a) 0 e))))
       (λ e. rw e (omega arith, other 0 (λ g. eqb-false (c .a) 0 e (sym g))))))
-      (λ many. rw many (over .3, rw (ne-eqb (c .b) (c .a) (λ g. apart many (sym g)), eq-eqb (c .b) (c .b) refl)))
+      (λ many. rw many (over .b-declared, rw (ne-eqb (c .b) (c .a) (λ g. apart many (sym g)), eq-eqb (c .b) (c .b) refl)))
 
   abbrev Way : Bool → ℕ → Type 0
   Way truth k = (more : List ℕ) × (all-below n more ≡ true) × (holds-in (c .template) (led-to k more) ≡ truth)
@@ -174,7 +174,7 @@ module _ (n : ℕ) (c : Constraint) (over : Over n c) where
       let otherwise = reaches (eqb n 1) (c .template) truth letters (next-of (c .template) k (second (c .template))) in
       either here (λ e. ([], refl, equal-same _ _ e))
       (λ e. either by-a
-      (λ f. through truth k (c .a) 0 (over .2) (rw (eq-eqb (c .a) (c .a) refl)) (way-out truth letters (next-of (c .template) k 0) f))
+      (λ f. through truth k (c .a) 0 (over .a-declared) (rw (eq-eqb (c .a) (c .a) refl)) (way-out truth letters (next-of (c .template) k 0) f))
       (λ f.
       let beside = rw (e, f) at h in
       let there = beside-a-says (and-left there-is otherwise beside) in
@@ -183,7 +183,7 @@ module _ (n : ℕ) (c : Constraint) (over : Over n c) where
 
   module _ (trace : List ℕ) (within : all-below n trace ≡ true) where
     here : ℕ
-    here = reached c trace
+    here = state-number c trace
 
     -- after more, the state reached from here tells whether the constraint holds
     later : (more : List ℕ) → all-below n more ≡ true → holds-in (c .template) (led-to here more) ≡ holds-on c (trace ++ more)
@@ -196,7 +196,7 @@ module _ (n : ℕ) (c : Constraint) (over : Over n c) where
     unfolding here
     every truth none more declared =
         sym (later more declared)
-        ∙ settled-stays truth here more (follow-small (c .template) (over .0) (over .1) (c .a) (c .b) 0 trace (omega arith)) declared (rw none)
+        ∙ settled-stays truth here more (follow-small (c .template) (over .from-1) (over .to-24) (c .a) (c .b) 0 trace (omega arith)) declared (rw none)
 
     some : (truth : Bool) → reaches (eqb n 1) (c .template) truth 3 here ≡ true → Some n c trace truth
     some truth found = let way = way-out truth 3 here found in (way .0, way .1, sym (later (way .0) (way .1)) ∙ way .2)

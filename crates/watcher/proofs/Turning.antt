@@ -9,19 +9,19 @@ use mathlib.Core.List.{List, map}
 use lib.ListN.{length}
 use Rattle.base.specs.Lists.{all, range}
 use Rattle.base.proofs.Lists.{all-map}
-use Rattle.watcher.specs.Calls.{constraint-at, given, proper, Lent}
+use Rattle.watcher.specs.Calls.{constraint-at, given, proper, Slots}
 use Rattle.watcher.specs.Loops.{each-of}
 
 -- ## One turn of a loop
 
-pub turns-due : (turn : ℕ → Lent → Lent) (count : ℕ) (l : Lent) → each-of turn count 0 l ≡ each-of turn (count - 0) 0 l
+pub turns-due : (turn : ℕ → Slots → Slots) (count : ℕ) (l : Slots) → each-of turn count 0 l ≡ each-of turn (count - 0) 0 l
 turns-due turn count l = let all : count ≡ count - 0 = omega arith in ap (λ n. each-of turn n 0 l) all
 
-pub turns-done : (turn : ℕ → Lent → Lent) (count at : ℕ) (l : Lent) → count ≤ at → each-of turn (count - at) at l ≡ l
+pub turns-done : (turn : ℕ → Slots → Slots) (count at : ℕ) (l : Slots) → count ≤ at → each-of turn (count - at) at l ≡ l
 unfolding each-of
 turns-done turn count at l h = let none : count - at ≡ 0 = omega arith in ap (λ n. each-of turn n at l) none
 
-pub turns-on : (turn : ℕ → Lent → Lent) (count at : ℕ) (l : Lent) → at < count
+pub turns-on : (turn : ℕ → Slots → Slots) (count at : ℕ) (l : Slots) → at < count
     → each-of turn (count - at) at l ≡ each-of turn (count - (at + 1)) (at + 1) (turn at l)
 unfolding each-of
 turns-on turn count at l h =

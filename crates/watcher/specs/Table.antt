@@ -53,13 +53,13 @@ place a b state activity = 4 * state + (2 - letter a b activity)
 -- ## A constraint after a trace
 
 -- the number of its automaton's state among those of its template
-abbrev pub reached : Constraint → List ℕ → ℕ
-reached c trace = follow (c .template) (c .a) (c .b) 0 trace
+abbrev pub state-number : Constraint → List ℕ → ℕ
+state-number c trace = follow (c .template) (c .a) (c .b) 0 trace
 
 -- its state
 abbrev pub state-after : Constraint → List ℕ → ℕ
-state-after c trace = c .template + 32 * reached c trace
+state-after c trace = c .template + 32 * state-number c trace
 
 -- what is told of it, with n declared activities
 abbrev pub outlook : ℕ → Constraint → List ℕ → ℕ
-outlook n c trace = outlook-in (eqb n 1) (c .template) (reached c trace)
+outlook n c trace = outlook-in (eqb n 1) (c .template) (state-number c trace)

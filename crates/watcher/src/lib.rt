@@ -2,7 +2,8 @@
 // still change.
 mod table;
 
-use eventlog::Refusal;
+use answers::DoneAnswer;
+use answers::Refusal;
 ghost use mathlib.Core.Path.{_≡_};
 ghost use mathlib.Core.List.{[], _∷_};
 ghost use Prim.Native.Nat.{_+_, _-_, _*_, _/_, _<_};
@@ -12,7 +13,8 @@ ghost use Rattle.base.specs.Lists.{all};
 ghost use Rattle.base.specs.Checks.{reply};
 ghost use Rattle.declare.specs.Automata.{letter};
 ghost use Rattle.declare.specs.Constraints.{constraint, pairs};
-ghost use Rattle.watcher.specs.Calls.{lent, beside, given, proper, well-formed, start-checks, start-said, Starts, step-said, Steps};
+ghost use Rattle.answers.specs.Answers.{done-said};
+ghost use Rattle.watcher.specs.Calls.{lent-slots, watched, given, proper, all-whole, start-checks, start-said, started, Starts, Steps};
 ghost use Rattle.watcher.specs.Table.{table as table-of, place};
 ghost use Rattle.watcher.specs.Loops.{each-of, HasPlace, first-turn as turned-first, turn-by, usable, checks-of-step};
 
@@ -28,14 +30,9 @@ pub enum StartAnswer {
     Refused(Refusal),
 }
 
-pub enum StepAnswer {
-    Taken,
-    Refused(Refusal),
-}
-
 pub struct StepResult {
     pub watcher: Watcher,
-    pub answer: StepAnswer,
+    pub answer: DoneAnswer,
 }
 
 pub const MOST_CONSTRAINTS: usize = 256;
@@ -94,8 +91,8 @@ fn turn(
     activity: u16,
 )
     requires { ⌜ (3 * at + 2 < length (now numbers)) × (at < length (now states)) × (at < length (now told)) ⌝ }
-    ensures { λ _. ⌜ lent (states .exit) (told .exit)
-        ≡ turn-by (now (table .entry)) (now (numbers .entry)) activity at (lent (states .entry) (told .entry)) ⌝ }
+    ensures { λ _. ⌜ lent-slots (states .exit) (told .exit)
+        ≡ turn-by (now (table .entry)) (now (numbers .entry)) activity at (lent-slots (states .entry) (told .entry)) ⌝ }
 {
     let from = NUMBERS * at;
     let state = table[place_of(numbers[from + 1], numbers[from + 2], states[at], activity)];
@@ -105,10 +102,10 @@ fn turn(
 
 // Every constraint, one event on.
 fn turns(watcher: Watcher, numbers: &[u16], states: &mut [u8], told: &mut [u8], activity: u16)
-    requires { ⌜ HasPlace watcher (now numbers) (lent states told) ⌝ }
-    ensures { λ _. ⌜ lent (states .exit) (told .exit)
+    requires { ⌜ HasPlace watcher (now numbers) (lent-slots states told) ⌝ }
+    ensures { λ _. ⌜ lent-slots (states .exit) (told .exit)
         ≡ each-of (turn-by (table-of (eqb (watcher .activities) 1)) (now (numbers .entry)) activity) (watcher .constraints) 0
-        (lent (states .entry) (told .entry)) ⌝ }
+        (lent-slots (states .entry) (told .entry)) ⌝ }
 {
     let table = table_for(watcher.activities);
     let count = watcher.constraints as usize;
@@ -122,8 +119,8 @@ fn turns(watcher: Watcher, numbers: &[u16], states: &mut [u8], told: &mut [u8], 
 // One constraint, before the first event.
 fn first_turn(table: &[u8; 1024], numbers: &[u16], at: usize, states: &mut [u8], told: &mut [u8])
     requires { ⌜ (3 * at < length (now numbers)) × (at < length (now states)) × (at < length (now told)) ⌝ }
-    ensures { λ _. ⌜ lent (states .exit) (told .exit)
-        ≡ turned-first (now (table .entry)) (now (numbers .entry)) at (lent (states .entry) (told .entry)) ⌝ }
+    ensures { λ _. ⌜ lent-slots (states .exit) (told .exit)
+        ≡ turned-first (now (table .entry)) (now (numbers .entry)) at (lent-slots (states .entry) (told .entry)) ⌝ }
 {
     let state = (numbers[NUMBERS * at] % 32) as u8;
     states[at] = state;
@@ -132,10 +129,10 @@ fn first_turn(table: &[u8; 1024], numbers: &[u16], at: usize, states: &mut [u8],
 
 // Every constraint, before the first event.
 fn first_turns(watcher: Watcher, numbers: &[u16], states: &mut [u8], told: &mut [u8])
-    requires { ⌜ HasPlace watcher (now numbers) (lent states told) ⌝ }
-    ensures { λ _. ⌜ lent (states .exit) (told .exit)
+    requires { ⌜ HasPlace watcher (now numbers) (lent-slots states told) ⌝ }
+    ensures { λ _. ⌜ lent-slots (states .exit) (told .exit)
         ≡ each-of (turned-first (table-of (eqb (watcher .activities) 1)) (now (numbers .entry))) (watcher .constraints) 0
-        (lent (states .entry) (told .entry)) ⌝ }
+        (lent-slots (states .entry) (told .entry)) ⌝ }
 {
     let table = table_for(watcher.activities);
     let constraints = watcher.constraints as usize;
@@ -190,7 +187,7 @@ fn all_proper(activities: u32, numbers: &[u16]) -> bool
 }
 
 fn is_well_formed(activities: u32, numbers: &[u16]) -> bool
-    ensures { λ r. ⌜ r ≡ well-formed activities (now (numbers .entry)) ⌝ }
+    ensures { λ r. ⌜ r ≡ all-whole activities (now (numbers .entry)) ⌝ }
 {
     if numbers.len() % NUMBERS != 0 {
         return false;
@@ -232,7 +229,8 @@ pub fn start(
     states: &mut [u8; MOST_CONSTRAINTS],
     told: &mut [u8; MOST_CONSTRAINTS],
 ) -> StartAnswer
-    ensures { λ r. ⌜ Starts activities (now (numbers .entry)) (lent (states .entry) (told .entry)) r (lent (states .exit) (told .exit)) ⌝ }
+    ensures { λ r. ⌜ ((there : Watcher) → Starts activities (now (numbers .entry)) (watched there (states .entry) (told .entry))
+        (start-said r) (watched (started there r) (states .exit) (told .exit))) ⌝ }
 {
     let answer = start_answer(activities, numbers);
     match answer {
@@ -255,26 +253,20 @@ fn is_usable(watcher: Watcher, numbers: usize) -> bool
     NUMBERS * constraints == numbers && watcher.taken <= eventlog::LONGEST_TRACE
 }
 
-fn not_taken(number: u8) -> StepAnswer
-    ensures { λ r. ⌜ r ≡ StepAnswer.Refused (record { number = number; detail = 0 }) ⌝ }
-{
-    StepAnswer::Refused(Refusal { number, detail: 0 })
-}
-
 // What step answers. Nothing is written before this is known.
-fn step_answer(watcher: Watcher, numbers: usize, activity: u32) -> StepAnswer
-    ensures { λ r. ⌜ step-said r ≡ reply (checks-of-step watcher numbers activity) [] ⌝ }
+fn step_answer(watcher: Watcher, numbers: usize, activity: u32) -> DoneAnswer
+    ensures { λ r. ⌜ done-said r ≡ reply (checks-of-step watcher numbers activity) [] ⌝ }
 {
     if !is_usable(watcher, numbers) {
-        return not_taken(eventlog::NOT_SOUND);
+        return answers::not_done(eventlog::NOT_SOUND, 0);
     }
     if watcher.activities <= activity {
-        return not_taken(eventlog::UNDECLARED);
+        return answers::not_done(eventlog::UNDECLARED, 0);
     }
     if eventlog::LONGEST_TRACE <= watcher.taken {
-        return not_taken(eventlog::TOO_LONG);
+        return answers::not_done(eventlog::TOO_LONG, 0);
     }
-    StepAnswer::Taken
+    DoneAnswer::Done
 }
 
 // One activity more, and what is then told of each constraint. The numbers are those of the start. A refused step changes nothing.
@@ -285,13 +277,13 @@ pub fn step(
     told: &mut [u8; MOST_CONSTRAINTS],
     activity: u32,
 ) -> StepResult
-    ensures { λ r. ⌜ Steps (now (numbers .entry)) (beside watcher (states .entry) (told .entry)) activity
-        (r .answer) (beside (r .watcher) (states .exit) (told .exit)) ⌝ }
+    ensures { λ r. ⌜ Steps (now (numbers .entry)) (watched watcher (states .entry) (told .entry)) activity
+        (done-said (r .answer)) (watched (r .watcher) (states .exit) (told .exit)) ⌝ }
 {
     let answer = step_answer(watcher, numbers.len(), activity);
     match answer {
-        StepAnswer::Refused(_) => StepResult { watcher, answer },
-        StepAnswer::Taken => {
+        DoneAnswer::Refused(_) => StepResult { watcher, answer },
+        DoneAnswer::Done => {
             turns(watcher, numbers, states, told, activity as u16);
             let after = Watcher {
                 activities: watcher.activities,

@@ -3,7 +3,7 @@
 use mathlib.Core.Path.{sym, ap, _∙_}
 use borrow.Author.Tests.{not-true, not-false}
 use Rattle.eventlog.specs.Store.{Memory, memory}
-use Rattle.columns.specs.Calls.{read-said}
+use Rattle.answers.specs.Answers.{count-said}
 use Rattle.columns.proofs.Laws.{bounded-start}
 use Rattle.columns.proofs.ReadContract.{unsound-replied, sound-replied}
 use borrow.Author.Needs.{needs}
@@ -35,7 +35,7 @@ returns-2 : tie.Need-returns-2
 returns-2 c =
     let tested = c .before .before .before in
     let s = tested .before .before .before .before in
-    ap read-said (rw (c .before .room-of .ensures) at (c .survey .ensures))
+    ap count-said (rw (c .before .room-of .ensures) at (c .survey .ensures))
     ∙ sound-replied (old s) (s .args .log .now) (sym (tested .is-sound .ensures) ∙ not-false _ (c .before .before .if1 .left))
 
 pub answer-spec : {M : Type 1} → statement M

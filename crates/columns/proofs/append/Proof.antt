@@ -17,8 +17,13 @@ write-lines-requires c κs =
     let k = counted (old s) (s .args .log .now) _ (s .pre) in
     (k .is-sound, k .passes)
 
-add-t11 : tie.Need-add-t11
-add-t11 c =
+cast-t11 : tie.Need-cast-t11
+cast-t11 c =
+    let s = c .before .before .before .before .before .before .before .before .before .before in
+    record { fits = omega (arith, few-added (old s) (s .args .log .now) _ (s .pre)) }
+
+add-t12 : tie.Need-add-t12
+add-t12 c =
     let s = c .before .before .before .before .before .before .before .before .before .before .before in
     omega (arith, few-added (old s) (s .args .log .now) _ (s .pre))
 
@@ -34,4 +39,4 @@ returns c =
     appended (old s) (s .args .log .now) _ _ (s .pre) (c .before .before .before .before .before .write-lines .ensures)
 
 pub append-spec : {M : Type 1} → statement M
-append-spec = tie.close (tie.spec write-lines-requires add-t11 same-length same-length-2 returns)
+append-spec = tie.close (tie.spec write-lines-requires cast-t11 add-t12 same-length same-length-2 returns)

@@ -7,7 +7,7 @@ use Rattle.columns.proofs.next.Statement.{statement}
 use Rattle.columns.proofs.next.Tie as tie
 
 sub-t4 : tie.Need-sub-t4
-sub-t4 c = c .before .before .before .pre .2 (sym (c .before .if1 .taken))
+sub-t4 c = c .before .before .before .pre .goes-on (sym (c .before .if1 .taken))
 
 add-t5 : tie.Need-add-t5
 add-t5 c = search needs

@@ -13,12 +13,12 @@ use Rattle.columns.proofs.survey.Statement.{statement}
 use Rattle.columns.proofs.survey.Tie as tie
 
 abbrev Inv-loop : tie.InvT-loop
-Inv-loop space log p₀ at₀ place₀ p at place =
-    Bounded space p × (place ≤ at + 1)
-    × (survey-of space p place (lines (drop at log)) ≡ survey-of space (at-start space) 1 (lines log))
+Inv-loop o log p₀ at₀ place₀ p at place =
+    Bounded o p × (place ≤ at + 1)
+    × (survey-of o p place (lines (drop at log)) ≡ survey-of o (at-start o) 1 (lines log))
 
 abbrev μ-loop : tie.MeasureT-loop
-μ-loop space log p₀ at₀ place₀ p at place = length log - at
+μ-loop o log p₀ at₀ place₀ p at place = length log - at
 
 loop-holds : tie.Need-loop-holds Inv-loop μ-loop
 loop-holds c = rw (c .start .ensures) (c .before .before .pre, omega arith, refl)
@@ -41,11 +41,11 @@ enum-known-number c = search needs
 returns : tie.Need-returns Inv-loop μ-loop
 returns c =
     let log = c .before .before .before .before .before .before .before .before .before .args .log .now in
-    let space = c .before .before .before .before .before .before .before .before .before .args .room in
+    let o = c .before .before .before .before .before .before .before .before .before .args .room in
     let at = c .before .before .before .before .before .before .loop in
-    let stops : step-of space (at .p) (entry-of (line-of (take 10 (drop (at .at) log)))) ≡ Step.Fault (c .before .number .given .0 .0) =
-    ap (step-of space (at .p)) (sym (c .before .before .before .before .line-at .ensures)) ∙ sym (c .before .before .before .take-line .ensures) ∙ c .before .number .given .1 in
-    sym (survey-stops space (at .p) (at .place) log (at .at) (c .before .before .before .before .before .loop-test .taken) _ stops) ∙ at .inv .2
+    let stops : step-of o (at .p) (entry-of (line-of (take 10 (drop (at .at) log)))) ≡ Step.Fault (c .before .number .given .0 .0) =
+    ap (step-of o (at .p)) (sym (c .before .before .before .before .line-at .ensures)) ∙ sym (c .before .before .before .take-line .ensures) ∙ c .before .number .given .1 in
+    sym (survey-stops o (at .p) (at .place) log (at .at) (c .before .before .before .before .before .loop-test .taken) _ stops) ∙ at .inv .2
 
 add-at : tie.Need-add-at Inv-loop μ-loop
 add-at c = omega (arith, c .before .before .before .before .before .loop-test .taken)
@@ -59,21 +59,23 @@ loop-less c = omega (arith, c .before .before .before .before .before .loop-test
 loop-again : tie.Need-loop-again Inv-loop μ-loop
 loop-again c =
     let log = c .before .before .before .before .before .before .before .before .before .args .log .now in
-    let space = c .before .before .before .before .before .before .before .before .before .args .room in
+    let o = c .before .before .before .before .before .before .before .before .before .args .room in
     let at = c .before .before .before .before .before .before .loop in
-    let on : step-of space (at .p) (entry-of (line-of (take 10 (drop (at .at) log)))) ≡ Step.Next (c .before .q .given .0 .0) =
-    ap (step-of space (at .p)) (sym (c .before .before .before .before .line-at .ensures)) ∙ sym (c .before .before .before .take-line .ensures) ∙ c .before .q .given .1 in (
-      bounded-step space (at .p) (at .inv .0) (entry-of (line-of (take 10 (drop (at .at) log)))) _ on,
+    let on : step-of o (at .p) (entry-of (line-of (take 10 (drop (at .at) log)))) ≡ Step.Next (c .before .q .given .0 .0) =
+    ap (step-of o (at .p)) (sym (c .before .before .before .before .line-at .ensures)) ∙ sym (c .before .before .before .take-line .ensures) ∙ c .before .q .given .1 in (
+      bounded-step o (at .p) (at .inv .0) (entry-of (line-of (take 10 (drop (at .at) log)))) _ on,
       omega (arith, at .inv .1),
-      sym (survey-on space (at .p) (at .place) log (at .at) (c .before .before .before .before .before .loop-test .taken) _ on) ∙ at .inv .2,
+      sym (survey-on o (at .p) (at .place) log (at .at) (c .before .before .before .before .before .loop-test .taken) _ on) ∙ at .inv .2,
     )
+
+cast-t13 : tie.Need-cast-t13 Inv-loop μ-loop
+cast-t13 c = search needs
 
 returns-2 : tie.Need-returns-2 Inv-loop μ-loop
 returns-2 c =
-    let log = c .before .before .before .before .args .log .now in
-    let space = c .before .before .before .before .args .room in
-    let at = c .before .loop in
-    sym (survey-ends space (at .p) (at .place) log (at .at) (c .loop-test .left)) ∙ at .inv .2
+    let args = c .before .before .before .before .before .args in
+    let at = c .before .before .loop in
+    sym (survey-ends (args .room) (at .p) (at .place) (args .log .now) (at .at) (c .before .loop-test .left)) ∙ at .inv .2
 
 pub survey-spec : {M : Type 1} → statement M
 survey-spec =
@@ -92,4 +94,5 @@ survey-spec =
     add-place
     loop-less
     loop-again
+    cast-t13
     returns-2)

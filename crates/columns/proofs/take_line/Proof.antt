@@ -21,10 +21,10 @@ fault-requires c κs = search needs
 next-requires : tie.Need-next-requires
 next-requires c κs =
     let w = c .before .before .before .before .before .pre in
-    let space = c .before .before .before .before .before .args .room in
+    let o = c .before .before .before .before .before .args .room in
     let p = c .before .before .before .before .before .args .p in
-    let found = faultless space p w _ _ (sym (c .before .fault .ensures) ∙ c .if1 .taken) in
-    (omega (arith, w .few), omega (arith, w .few, w .in-reach), found .goes-on)
+    let found = faultless o p w _ _ (sym (c .before .fault .ensures) ∙ c .if1 .taken) in
+    record { few = omega (arith, w .few); reach = omega (arith, w .few, w .in-reach); goes-on = found .goes-on }
 
 returns : tie.Need-returns
 returns c = search needs

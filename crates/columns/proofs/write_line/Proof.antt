@@ -23,9 +23,7 @@ enum-known-entry : tie.Need-enum-known-entry
 enum-known-entry c = search needs
 
 next-requires : tie.Need-next-requires
-next-requires c κs =
-    let h = placed-at c in
-    (omega (arith, h .few), h .reach, h .goes-on)
+next-requires c κs = placed-at c .onward
 
 cast-event : tie.Need-cast-event
 cast-event c = search needs

@@ -65,7 +65,7 @@ loop-again c =
     let at = test .before .loop in
     let s = test .before .before .before .before .before .before .before .before .before in
     let log = s .args .log .now in
-    let space = room (old s) in
+    let o = room (old s) in
     let here = test .loop-test .taken in
     let entry = entry-of (line-of (take 10 (drop (at .at) log))) in
     let read = c .before .before .before .before .before .before .before .line-at .ensures in
@@ -74,9 +74,9 @@ loop-again c =
     let step : called .result ≡ moved (at .p) entry = rw read at (called .ensures .0) in
     let written = rw read at (called .ensures .1) in
     let lengths = written-lengths (at .p) entry now-there in (
-      rw step (bounded-at space (at .p) (at .inv .1 .0) log (at .at) here (at .inv .0) (at .inv .1 .1)),
-      (at .inv .1 .0 + 1, rw step (accepted-at space (at .p) (at .inv .1 .0) log (at .at) here (at .inv .0) (at .inv .1 .1))),
-      rw (step, written) (sym (lines-written-at space (at .p) (at .inv .1 .0) log (at .at) here now-there) ∙ at .inv .2),
+      rw step (bounded-at o (at .p) (at .inv .1 .0) log (at .at) here (at .inv .0) (at .inv .1 .1)),
+      (at .inv .1 .0 + 1, rw step (accepted-at o (at .p) (at .inv .1 .0) log (at .at) here (at .inv .0) (at .inv .1 .1))),
+      rw (step, written) (sym (lines-written-at o (at .p) (at .inv .1 .0) log (at .at) here now-there) ∙ at .inv .2),
       ap (λ (m : Memory). length (m .events)) written ∙ lengths .0 ∙ at .inv .3,
       ap (λ (m : Memory). length (m .ends)) written ∙ lengths .1 ∙ at .inv .4,
     )

@@ -7,9 +7,9 @@ use mathlib.Core.Logic.{⊎-elim}
 use native.Mathlib.Omega.{arith}
 use borrow.Author.Needs.{needs}
 use borrow.Author.Tests.{ltb-true, ltb-false}
-use Rattle.declare.specs.Meaning.{between}
+use Rattle.base.specs.Logic.{in-range}
 use Rattle.declare.specs.Automata.{automaton}
-use Rattle.declare.proofs.Ranges.{inside, below, above}
+use Rattle.base.proofs.Ranges.{inside, below, above}
 use Rattle.declare.proofs.automaton_of.Statement.{statement}
 use Rattle.declare.proofs.automaton_of.Tie as tie
 
@@ -20,7 +20,7 @@ returns : tie.Need-returns
 unfolding automaton
 returns c =
     let t = c .before .before .args .template in
-    let outside : between 1 t 24 ≡ false =
+    let outside : in-range 1 t 24 ≡ false =
     ⊎-elim (λ w. below 1 t 24 (w .taken)) (λ w. above 1 t 24 (ltb-true 24 t (w .1 .taken))) (c .before .if1 .came) in
     rw outside (c .no-automaton .ensures)
 

@@ -59,14 +59,14 @@ module _ (n : ℕ) where
       let of-t = range-member t 1 24 from-t in
       let of-a = range-member a 0 n from-a in
       let of-b = range-member b 0 n from-b in
-      (omega arith, omega arith, omega arith, omega arith, here .paired)
+      record { from-1 = omega arith; to-24 = omega arith; a-declared = omega arith; b-declared = omega arith; paired = here .paired }
 
   pub over-constraints : (c : Constraint) → Over n c → List·Memᴰ c (constraints n)
   unfolding constraints
   over-constraints c over =
-      let in-row = member-flat-map (cell (c .template) (c .a)) c (c .b) (range 0 n) (member-range (c .b) 0 n (omega arith) (omega arith)) (cell-has c (over .4)) in
+      let in-row = member-flat-map (cell (c .template) (c .a)) c (c .b) (range 0 n) (member-range (c .b) 0 n (omega arith) (omega arith)) (cell-has c (over .paired)) in
       let in-grid = member-flat-map (row n (c .template)) c (c .a) (range 0 n) (member-range (c .a) 0 n (omega arith) (omega arith)) in-row in
-      member-flat-map (grid n) c (c .template) (range 1 24) (member-range (c .template) 1 24 (over .0) (omega arith)) in-grid
+      member-flat-map (grid n) c (c .template) (range 1 24) (member-range (c .template) 1 24 (over .from-1) (omega arith)) in-grid
 
 -- ## Facts of which there is at most one proof
 
@@ -85,10 +85,19 @@ precedes-prop c d =
     (pair-prop (ℕ-set _ _) (disjoint-prop le-prop (pair-prop (ℕ-set _ _) le-prop) (λ h k. let e = k .0 in omega arith)))
     (λ h k. let e = k .0 in omega arith)
 
+over-prop : (n : ℕ) (c : Constraint) → IsProp (Over n c)
+over-prop n c x y =
+    λ i.
+    record {
+      from-1 = le-prop (x .from-1) (y .from-1) i;
+      to-24 = le-prop (x .to-24) (y .to-24) i;
+      a-declared = le-prop (x .a-declared) (y .a-declared) i;
+      b-declared = le-prop (x .b-declared) (y .b-declared) i;
+      paired = Bool-set _ _ (x .paired) (y .paired) i;
+    }
+
 exactly-prop : (n : ℕ) (c : Constraint) (t : Bool) → IsProp (Over n c × (t ≡ true))
-exactly-prop n c t =
-    pair-prop (λ x y. λ i. (le-prop (x .0) (y .0) i, le-prop (x .1) (y .1) i, le-prop (x .2) (y .2) i, le-prop (x .3) (y .3) i, Bool-set _ _ (x .4) (y .4) i))
-    (Bool-set t true)
+exactly-prop n c t = pair-prop (over-prop n c) (Bool-set t true)
 
 filter-members :
     (n : ℕ) (passes : Constraint → Bool) (c : Constraint) →

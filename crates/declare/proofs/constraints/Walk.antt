@@ -41,7 +41,7 @@ partner-least n t a from x low high takes = go (range-of t)
         rw (h, k) (either (eqb from a) (λ q. rw q (omega (arith, other, eqb-true from a q))) (λ q. rw q (omega arith)))
 
 row-least : (n t a from : ℕ) (e : Constraint) → t ≡ e .template → a ≡ e .a → from ≤ e .b → Over n e → partner n t a from ≤ e .b
-row-least n t a from e p q low of = partner-least n t a from (e .b) low (of .3) (rw (p, q) (of .4))
+row-least n t a from e p q low of = partner-least n t a from (e .b) low (of .b-declared) (rw (p, q) (of .paired))
 
 partner-takes : (n t a from : ℕ) → partner n t a from < n → (from ≤ partner n t a from) × (pairs t a (partner n t a from) ≡ true)
 partner-takes n t a from = go (range-of t)
@@ -85,13 +85,13 @@ first-is-partner n t = go (range-of t)
 template-before : (n t : ℕ) (e : Constraint) → t ≤ e .template → Over n e → first-of t .b < n
 template-before n t e low over =
     either (leb t 8)
-    (λ h. rw h (omega (arith, over .2)))
+    (λ h. rw h (omega (arith, over .a-declared)))
     (λ h. rw h (two (range-of (e .template)) h))
   where
     two : Range (e .template) → leb t 8 ≡ false → 1 < n
     two (alone h) k = absurd (omega (arith, leb-true (e .template) 8 h, leb-false t 8 k))
-    two (above h k) _ = omega (arith, over .2, over .3, ltb-true (e .a) (e .b) (rw (h, k) at (over .4)))
-    two (apart h k) _ = omega (arith, over .2, over .3, eqb-false (e .a) (e .b) (not-true _ (rw (h, k) at (over .4))))
+    two (above h k) _ = omega (arith, over .a-declared, over .b-declared, ltb-true (e .a) (e .b) (rw (h, k) at (over .paired)))
+    two (apart h k) _ = omega (arith, over .a-declared, over .b-declared, eqb-false (e .a) (e .b) (not-true _ (rw (h, k) at (over .paired))))
 
 -- ## The next one is the least of those behind
 
@@ -119,7 +119,7 @@ module _ (n : ℕ) (c : Constraint) (over : Over n c) where
   beside : partner n (c .template) (c .a) (c .b + 1) < n → Next n c (constraint (c .template) (c .a) (partner n (c .template) (c .a) (c .b + 1)))
   beside below =
       let takes = partner-takes n (c .template) (c .a) (c .b + 1) below in
-      record { over = (over .0, over .1, over .2, below, takes .1); behind = inr (refl, inr (refl, omega (arith, takes .0))); least = least }
+      record { over = record { from-1 = over .from-1; to-24 = over .to-24; a-declared = over .a-declared; b-declared = below; paired = takes .1 }; behind = inr (refl, inr (refl, omega (arith, takes .0))); least = least }
     where
       d : Constraint
       d = constraint (c .template) (c .a) (partner n (c .template) (c .a) (c .b + 1))
@@ -136,13 +136,13 @@ module _ (n : ℕ) (c : Constraint) (over : Over n c) where
     later e of t (inl h) = omega arith
     later e of t (inr (a, h)) =
         let low = row-least n (c .template) (c .a) (c .b + 1) e t a (omega arith) of in
-        absurd (omega (arith, low, of .3))
+        absurd (omega (arith, low, of .b-declared))
 
     -- the first of the next a
     below : c .a + 1 < n → partner n (c .template) (c .a + 1) 0 < n → Next n c (constraint (c .template) (c .a + 1) (partner n (c .template) (c .a + 1) 0))
     below more first =
         let takes = partner-takes n (c .template) (c .a + 1) 0 first in
-        record { over = (over .0, over .1, more, first, takes .1); behind = inr (refl, inl (omega arith)); least = least }
+        record { over = record { from-1 = over .from-1; to-24 = over .to-24; a-declared = more; b-declared = first; paired = takes .1 }; behind = inr (refl, inl (omega arith)); least = least }
       where
         d : Constraint
         d = constraint (c .template) (c .a + 1) (partner n (c .template) (c .a + 1) 0)
@@ -158,8 +158,8 @@ module _ (n : ℕ) (c : Constraint) (over : Over n c) where
       after e of (inl h) = omega arith
       after e of (inr (t, h)) =
           let low = later e of t h in
-          let first = row-before n (c .template) (c .a + 1) (e .a) (e .b) low (of .2) (of .3) (rw t (of .4)) in
-          absurd (omega (arith, first, none (omega (arith, of .2))))
+          let first = row-before n (c .template) (c .a + 1) (e .a) (e .b) low (of .a-declared) (of .b-declared) (rw t (of .paired)) in
+          absurd (omega (arith, first, none (omega (arith, of .a-declared))))
 
       -- the first of the next template
       next-template : (e : Constraint) → Over n e → Precedes c e → Next n c (first-of (c .template + 1))
@@ -167,7 +167,8 @@ module _ (n : ℕ) (c : Constraint) (over : Over n c) where
           let first = template-before n (c .template + 1) e (after e of h) of in
           let takes = partner-takes n (c .template + 1) 0 0 (rw (first-is-partner n (c .template + 1)) at first) in
           record {
-            over = (omega arith, omega (arith, after e of h, of .1), omega (arith, of .2), first, rw (first-is-partner n (c .template + 1)) (takes .1));
+            over =
+                record { from-1 = omega arith; to-24 = omega (arith, after e of h, of .to-24); a-declared = omega (arith, of .a-declared); b-declared = first; paired = rw (first-is-partner n (c .template + 1)) (takes .1) };
             behind = inl (omega arith);
             least = least;
           }
@@ -193,7 +194,7 @@ module _ (n : ℕ) (c : Constraint) (over : Over n c) where
       (λ r.
       let none : c .a + 1 < n → n ≤ partner n (c .template) (c .a + 1) 0 =
       λ more. ltb-false _ n (rw (lt-ltb (c .a + 1) n more) at r) in
-      let low : c .template < 24 = omega (arith, after last none e of h, of .1) in
+      let low : c .template < 24 = omega (arith, after last none e of h, of .to-24) in
       rw (r, lt-ltb (c .template) 24 low) (next-template last none e of h))))
 
 -- ## Place by place

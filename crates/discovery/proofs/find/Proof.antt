@@ -5,9 +5,9 @@ use mathlib.Core.Bool.{true}
 use borrow.Author.Needs.{needs}
 use borrow.Author.Tests.{not-true, not-false}
 use Rattle.eventlog.specs.Store.{Memory, memory, sound}
-use Rattle.discovery.specs.Question.{asked, trace-count}
-use Rattle.discovery.specs.Calls.{in-range}
-use Rattle.discovery.proofs.FindContract.{fits-told, short-told, finds-refused, finds-short, finds-listed}
+use Rattle.discovery.specs.Calls.{threshold-in-range}
+use Rattle.base.proofs.Outcomes.{outcome-refused}
+use Rattle.discovery.proofs.FindContract.{fits-told, short-told, Findable, finds-short, finds-listed}
 use Rattle.discovery.proofs.find.Statement.{statement}
 use Rattle.discovery.proofs.find.Tie as tie
 
@@ -17,15 +17,20 @@ memory-at s = memory (s .args .store) (s .args .events .now) (s .args .ends .now
 is-sound-here : (c : tie.Else1) → sound (memory-at (c .before .before .before .before .before)) ≡ true
 is-sound-here c = sym (c .before .is-sound .ensures) ∙ not-false _ (c .if1 .left)
 
-in-range-here : (c : tie.Else2) → in-range (c .before .before .before .before .before .before .before .args .threshold) ≡ true
+in-range-here : (c : tie.Else2) → threshold-in-range (c .before .before .before .before .before .before .before .args .settings) ≡ true
 in-range-here c = sym (c .before .in-range .ensures) ∙ not-false _ (c .if2 .left)
 
 abbrev start-of : tie.Else3 → tie.Start
 start-of c = c .before .before .before .before .before .before .before .before .before
 
--- behind the third test some kept trace is of length 1 or more
-some-here : (c : tie.Else3) → let s = start-of c in trace-count (asked (memory-at s) (s .args .threshold)) ≡ 0 → ⊥
-some-here c none = c .if3 .left (c .before .trace-count .ensures ∙ none)
+-- what is known behind the third test
+findable : (c : tie.Else3) → Findable (memory-at (start-of c)) (start-of c .args .settings)
+findable c =
+    record {
+      is-sound = is-sound-here (c .before .before .before .before);
+      ranged = in-range-here (c .before .before);
+      some = λ none. c .if3 .left (c .before .trace-count .ensures ∙ none);
+    }
 
 is-sound-requires : tie.Need-is-sound-requires
 is-sound-requires c κs = search needs
@@ -36,7 +41,7 @@ refused-requires c κs = search needs
 returns : tie.Need-returns
 returns c =
     let unsound = sym (c .before .before .is-sound .ensures) ∙ not-true _ (c .before .if1 .taken) in
-    rw (c .refused .ensures) (finds-refused _ _ _ 1 0 (simp unsound))
+    rw (c .refused .ensures) (outcome-refused (simp unsound) refl)
 
 in-range-requires : tie.Need-in-range-requires
 in-range-requires c κs = search needs
@@ -48,7 +53,7 @@ returns-2 : tie.Need-returns-2
 returns-2 c =
     let tested = c .before .before in
     let outside = sym (tested .in-range .ensures) ∙ not-true _ (c .before .if2 .taken) in
-    rw (c .refused2 .ensures) (finds-refused _ _ _ 3 0 (simp (is-sound-here (tested .before), outside)))
+    rw (c .refused2 .ensures) (outcome-refused (simp (is-sound-here (tested .before), outside)) refl)
 
 trace-count-requires : tie.Need-trace-count-requires
 trace-count-requires c κs = is-sound-here (c .before .before)
@@ -61,10 +66,10 @@ returns-3 c =
     let counted = c .before .before in
     let e = counted .before in
     let none = sym (counted .trace-count .ensures) ∙ c .before .if3 .taken in
-    rw (c .refused3 .ensures) (finds-refused _ _ _ 11 0 (simp (is-sound-here (e .before .before), in-range-here e, none)))
+    rw (c .refused3 .ensures) (outcome-refused (simp (is-sound-here (e .before .before), in-range-here e, none)) refl)
 
 look-requires : tie.Need-look-requires
-look-requires c κs = let e = c .before in (is-sound-here (e .before .before .before .before), e .before .trace-count .ensures)
+look-requires c κs = let e = c .before in record { is-sound = findable e .is-sound; counted = e .before .trace-count .ensures }
 
 enum-known-fit : tie.Need-enum-known-fit
 enum-known-fit c = search needs
@@ -82,8 +87,7 @@ returns-4 c =
     let s = start-of e in
     let told = short-told _ (s .args .list .now) _ (sym (l .look .ensures .0) ∙ c .before .before .fit .given .1) in
     rw (c .refused4 .ensures, l .look .ensures .1)
-    (finds-short (memory-at s) _ _ (is-sound-here (e .before .before .before .before)) (in-range-here (e .before .before)) (some-here e) _ (told .0)
-    (rw (told .0) (told .1)))
+    (finds-short (memory-at s) _ _ (findable e) _ (told .0) (rw (told .0) (told .1)))
 
 enum-told : tie.Need-enum-told
 enum-told c = search needs
@@ -91,7 +95,7 @@ enum-told c = search needs
 pass-requires : tie.Need-pass-requires
 pass-requires c κs =
     let e = c .before .before .before .before .before .before .before in
-    (is-sound-here (e .before .before .before .before), e .before .trace-count .ensures)
+    record { is-sound = findable e .is-sound; counted = e .before .trace-count .ensures }
 
 same-length-2 : tie.Need-same-length-2
 same-length-2 c = search needs
@@ -102,7 +106,7 @@ returns-5 c =
     let e = l .before .before in
     let s = start-of e in
     let fits = fits-told _ (s .args .list .now) (sym (l .look .ensures .0) ∙ c .before .before .before .before .enum-told .given .1) in
-    finds-listed (memory-at s) _ _ (is-sound-here (e .before .before .before .before)) (in-range-here (e .before .before)) (some-here e) _ refl fits _ _ _
+    finds-listed (memory-at s) _ _ (findable e) _ refl fits _ _ _
     (e .before .trace-count .ensures) (rw (l .look .ensures .1) at (c .before .before .pass .ensures))
 
 pub find-spec : {M : Type 1} → statement M

@@ -5,7 +5,7 @@ use Rattle.discovery.proofs.in_range.Statement.{statement}
 use Rattle.discovery.proofs.in_range.Tie as tie
 
 returns : tie.Need-returns
-returns c = simp (le-leb _ _ (c .if1 .taken))
+returns c = simp (le-leb _ _ (c .before .if1 .taken))
 
 returns-2 : tie.Need-returns-2
 returns-2 c = simp (lt-leb _ _ (c .if1 .left))

@@ -18,9 +18,10 @@ use Rattle.declare.proofs.constraints.Members.{constraints-number}
 use Rattle.eventlog.specs.Store.{Memory, sound, kept}
 use Rattle.eventlog.proofs.Laws.{kept-length, sound-facts}
 use Rattle.discovery.specs.declared.Measure.{Measure}
+use Rattle.discovery.specs.declared.Settings.{Settings}
 use Rattle.discovery.specs.declared.list.Tally.{Tally}
 use Rattle.discovery.specs.Question.{Question, asked, meets, fulfilments, class-of, support, always, survives, is-listed, numbers, layout}
-use Rattle.discovery.specs.Passes.{Measured, Passes, AtMostAll, none-yet}
+use Rattle.discovery.specs.Passes.{Measured, Passes, TallyFits, none-yet}
 use Rattle.discovery.proofs.classes.Pruning.{pruned-not-listed}
 use Rattle.discovery.proofs.Listing.{layout-length}
 
@@ -43,17 +44,17 @@ layout-append q cs ds = flat-map-append _ cs ds
 
 -- in a class that is not kept always, support decides
 pub by-support :
-    (m : Memory) (measure : Measure) (number : ℕ) (c : Constraint) → Measured m measure → always (class-of (c .template)) ≡ false →
-    number ≡ support (asked m (measure .threshold) .traces) c →
-    meets (measure .threshold) (measure .traces) number ≡ survives (asked m (measure .threshold)) c
-by-support m measure number c measured not-always e = rw not-always (ap₂ (meets (measure .threshold)) measured e)
+    {m : Memory} {measure : Measure} {number : ℕ} (c : Constraint) → Measured m measure → always (class-of (c .template)) ≡ false →
+    number ≡ support (asked m (measure .settings) .traces) c →
+    meets (measure .settings .threshold) (measure .traces) number ≡ survives (asked m (measure .settings)) c
+by-support {measure = measure} c measured not-always e = rw not-always (ap₂ (meets (measure .settings .threshold)) (measured .counted) e)
 
-pub fulfilments-few : (m : Memory) → sound m ≡ true → (threshold : ℕ) (c : Constraint) → fulfilments (asked m threshold .traces) c ≤ 4095
+pub fulfilments-few : (m : Memory) → sound m ≡ true → (settings : Settings) (c : Constraint) → fulfilments (asked m settings .traces) c ≤ 4095
 unfolding fulfilments
-fulfilments-few m h threshold c =
+fulfilments-few m h settings c =
     omega (
       arith,
-      count-at-most (fulfilled (c .template) (c .a) (c .b)) (asked m threshold .traces),
+      count-at-most (fulfilled (c .template) (c .a) (c .b)) (asked m settings .traces),
       count-at-most non-empty (kept m),
       kept-length m h,
       sound-facts m h .few-traces,
@@ -61,12 +62,12 @@ fulfilments-few m h threshold c =
 
 -- ## Passing
 
-module _ (q : Question) where
-  pub passes-none : (t : Tally) (list : List ℕ) → Passes q [] t list t list
+module _ {q : Question} where
+  pub passes-none : {t : Tally} {list : List ℕ} → Passes q [] t list t list
   unfolding layout
-  passes-none t list = record { listed = omega arith; replayed = omega arith; written = refl }
+  passes-none = record { listed = omega arith; replayed = omega arith; written = refl }
 
-  module _ (c : Constraint) (t : Tally) (list : List ℕ) where
+  module _ {c : Constraint} {t : Tally} {list : List ℕ} where
     pub passes-pruned : survives q c ≡ false → Passes q (c ∷ []) t list t list
     unfolding layout
     passes-pruned pruned =
@@ -74,25 +75,24 @@ module _ (q : Question) where
         record { listed = rw not-listed (omega arith); replayed = rw pruned (omega arith); written = rw not-listed }
 
     pub passes-unlisted :
-        (t′ : Tally) → t′ .listed ≡ t .listed → t′ .replayed ≡ t .replayed + 1 → survives q c ≡ true →
+        {t′ : Tally} → t′ .listed ≡ t .listed → t′ .replayed ≡ t .replayed + 1 → survives q c ≡ true →
         is-listed q c ≡ false → Passes q (c ∷ []) t list t′ list
     unfolding layout
-    passes-unlisted t′ same more kept not-listed =
+    passes-unlisted same more kept not-listed =
         record { listed = rw not-listed (omega arith); replayed = rw kept (omega arith); written = rw not-listed }
 
     pub passes-listed :
-        (t′ : Tally) (list′ : List ℕ) → t′ .listed ≡ t .listed + 1 → t′ .replayed ≡ t .replayed + 1 → survives q c ≡ true →
+        {t′ : Tally} {list′ : List ℕ} → t′ .listed ≡ t .listed + 1 → t′ .replayed ≡ t .replayed + 1 → survives q c ≡ true →
         is-listed q c ≡ true → list′ ≡ sets list (numbers * t .listed) (c .template ∷ c .a ∷ c .b ∷ fulfilments (q .traces) c ∷ []) →
         Passes q (c ∷ []) t list t′ list′
     unfolding layout
-    passes-listed t′ list′ one-more more kept is-listed-too written =
+    passes-listed one-more more kept is-listed-too written =
         record { listed = rw is-listed-too one-more; replayed = rw kept more; written = rw is-listed-too written }
 
-  pub passes-append :
-      (cs ds : List Constraint) (t t′ t″ : Tally) (list list′ list″ : List ℕ) →
-      Passes q cs t list t′ list′ → Passes q ds t′ list′ t″ list″ →
-      Passes q (cs ++ ds) t list t″ list″
-  passes-append cs ds t t′ t″ list list′ list″ p p′ =
+  passes-append :
+      {cs ds : List Constraint} {t t′ t″ : Tally} {list list′ list″ : List ℕ} →
+      Passes q cs t list t′ list′ → Passes q ds t′ list′ t″ list″ → Passes q (cs ++ ds) t list t″ list″
+  passes-append {cs} {ds} {t} {t′} p p′ =
       let ours = filter (is-listed q) cs in
       let place : numbers * t′ .listed ≡ numbers * t .listed + length (layout q ours) = omega (arith, p .listed, layout-length q ours) in
       record {
@@ -105,22 +105,23 @@ module _ (q : Question) where
 
   -- one constraint on
   pub passes-next :
-      (cs : List Constraint) (k : ℕ) (c d : Constraint) (t t′ t″ : Tally) (list list′ list″ : List ℕ) → k < length cs → c ≡ getD cs k d →
-      Passes q (take k cs) t list t′ list′ → Passes q (c ∷ []) t′ list′ t″ list″ → Passes q (take (k + 1) cs) t list t″ list″
-  passes-next cs k c d t t′ t″ list list′ list″ more e p p′ =
-      rw (add-one k, take-suc cs k d more, ← e) (passes-append (take k cs) (c ∷ []) t t′ t″ list list′ list″ p p′)
+      (cs : List Constraint) (k : ℕ) {c : Constraint} (d : Constraint) {t t′ t″ : Tally} {list list′ list″ : List ℕ} → k < length cs →
+      c ≡ getD cs k d → Passes q (take k cs) t list t′ list′ → Passes q (c ∷ []) t′ list′ t″ list″ →
+      Passes q (take (k + 1) cs) t list t″ list″
+  passes-next cs k d more e p p′ = rw (add-one k, take-suc cs k d more, ← e) (passes-append p p′)
 
   pub passes-length :
-      (cs : List Constraint) (t t′ : Tally) (list list′ : List ℕ) → Passes q cs t list t′ list′ → length list′ ≡ length list
-  passes-length cs t t′ list list′ p = ap length (p .written) ∙ simp length-sets
+      {cs : List Constraint} {t t′ : Tally} {list list′ : List ℕ} → Passes q cs t list t′ list′ → length list′ ≡ length list
+  passes-length p = ap length (p .written) ∙ simp length-sets
 
   -- no more are listed and replayed than all
   pub passes-few :
-      (n k : ℕ) (t : Tally) (list list′ : List ℕ) → k ≤ length (constraints n) → Passes q (take k (constraints n)) none-yet list t list′ →
-      AtMostAll n (t .listed) × AtMostAll n (t .replayed)
-  passes-few n k t list list′ within p =
+      (n k : ℕ) {t : Tally} {list list′ : List ℕ} → k ≤ length (constraints n) → Passes q (take k (constraints n)) none-yet list t list′ →
+      TallyFits n t
+  passes-few n k within p =
       let some = take k (constraints n) in
-      let few = length-take-le k (constraints n) within in (
-        omega (arith, p .listed, count-at-most (is-listed q) some, few, constraints-number n),
-        omega (arith, p .replayed, count-at-most (survives q) some, few, constraints-number n),
-      )
+      let few = length-take-le k (constraints n) within in
+      record {
+        listed = omega (arith, p .listed, count-at-most (is-listed q) some, few, constraints-number n);
+        replayed = omega (arith, p .replayed, count-at-most (survives q) some, few, constraints-number n);
+      }

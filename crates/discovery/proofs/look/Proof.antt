@@ -13,7 +13,7 @@ use Rattle.discovery.proofs.look.Statement.{statement}
 use Rattle.discovery.proofs.look.Tie as tie
 
 cast-constraint-count : tie.Need-cast-constraint-count
-cast-constraint-count c = omega (arith, sound-facts _ (c .before .before .before .before .pre .0) .few-activities)
+cast-constraint-count c = omega (arith, sound-facts _ (c .before .before .before .before .pre .is-sound) .few-activities)
 
 constraint-count-requires : tie.Need-constraint-count-requires
 constraint-count-requires c κs = search needs
@@ -24,7 +24,7 @@ cast-if1 c = search needs
 returns : tie.Need-returns
 returns c =
     let s = c .before .before .before .before .before .before in (
-      all-fit (asked (memory (s .args .store) (s .args .events .now) (s .args .ends .now)) (s .args .measure .threshold)) (s .args .list .now)
+      all-fit (asked (memory (s .args .store) (s .args .events .now) (s .args .ends .now)) (s .args .measure .settings)) (s .args .list .now)
           (rw (c .before .constraint-count .ensures) at (c .if1 .taken)),
       refl,
     )
@@ -52,13 +52,13 @@ same-length c = search needs
 
 -- the pass leaves the slice as it was
 nothing-written : (c : tie.After-pass) → c .pass .last .1 .1 .1 .1 .0 ≡ []
-nothing-written c = passed-none _ _ _ _ (c .pass .ensures) refl
+nothing-written c = passed-none (c .pass .ensures) refl
 
 returns-2 : tie.Need-returns-2
 returns-2 c =
     let p = c .before .before .before .before in
     let list = p .before .before .before .before .before .before .before .before .args .list .now in (
-      list-short _ list (rw (nothing-written p) at (c .if2 .taken)) ∙ ap (λ k. fit-of k list) (passed-listed _ _ _ _ (p .pass .ensures)),
+      list-short _ list (rw (nothing-written p) at (c .if2 .taken)) ∙ ap (λ k. fit-of k list) (passed-listed (p .pass .ensures)),
       rw (nothing-written p),
     )
 
@@ -69,7 +69,7 @@ returns-3 : tie.Need-returns-3
 returns-3 c =
     let p = c .before .before .before .before in
     let list = p .before .before .before .before .before .before .before .before .args .list .now in (
-      list-fits _ list (rw (nothing-written p) at (c .if2 .left)) ∙ ap (λ k. fit-of k list) (passed-listed _ _ _ _ (p .pass .ensures)),
+      list-fits _ list (rw (nothing-written p) at (c .if2 .left)) ∙ ap (λ k. fit-of k list) (passed-listed (p .pass .ensures)),
       rw (nothing-written p),
     )
 

@@ -1,5 +1,7 @@
 -- `eventlog::add` meets its contract: each arm from what the answer was. Assumes nothing.
-use Rattle.eventlog.proofs.Adding.{adds-refused, adds-added}
+use mathlib.Core.Path.{ap}
+use Rattle.base.proofs.Outcomes.{outcome-refused, outcome-accepted}
+use Rattle.answers.specs.Answers.{done-said}
 use borrow.Author.Needs.{needs}
 use Rattle.eventlog.proofs.add.Statement.{statement}
 use Rattle.eventlog.proofs.add.Tie as tie
@@ -26,7 +28,7 @@ same-length-2 c = search needs
 
 returns : tie.Need-returns
 returns c =
-    adds-refused _ _ _ (c .before .before .add-answer .ensures) (c .enum-told .given .0 .0) (c .enum-told .given .1)
+    outcome-refused (c .before .before .add-answer .ensures) (ap done-said (c .enum-told .given .1))
 
 same-length-3 : tie.Need-same-length-3
 same-length-3 c = search needs
@@ -38,7 +40,7 @@ returns-2 : tie.Need-returns-2
 returns-2 c =
     let appended = c .before .before .before .before in
     let told = appended .before .before .before in
-    adds-added _ _ _ (told .before .before .add-answer .ensures) _ (told .enum-told2 .given .1) (appended .append .ensures)
+    outcome-accepted (told .before .before .add-answer .ensures) (ap done-said (told .enum-told2 .given .1)) (appended .append .ensures)
 
 pub add-spec : {M : Type 1} → statement M
 add-spec =

@@ -8,7 +8,8 @@ use borrow.Author.Tests.{lt-ltb, le-ltb, not-true, not-false}
 use lib.ListN.{length, drop}
 use Rattle.base.specs.Checks.{Check, refused, reply}
 use Rattle.eventlog.specs.Store.{Memory, memory, sound, last-end, all-below, room, full}
-use Rattle.eventlog.specs.Calls.{checks-of-add, add-said}
+use Rattle.answers.specs.Answers.{done-said}
+use Rattle.eventlog.specs.Calls.{checks-of-add}
 use Rattle.eventlog.proofs.Laws.{sound-facts}
 use Rattle.eventlog.proofs.Walks.{declared-yes, declared-no}
 use borrow.Author.Needs.{needs}
@@ -55,40 +56,40 @@ not-full c = not-long (c .before .before .before) ∙ rw (full-is (c .before) �
 is-sound-requires : tie.Need-is-sound-requires
 is-sound-requires c κs = search needs
 
-refused-requires : tie.Need-refused-requires
-refused-requires c κs = search needs
+not-done-requires : tie.Need-not-done-requires
+not-done-requires c κs = search needs
 
 returns : tie.Need-returns
 returns c =
     let tested = c .before .before .is-sound in
-    simp (c .refused .ensures, ← tested .ensures, not-true (tested .result) (c .before .if1 .taken))
+    simp (c .not-done .ensures, ← tested .ensures, not-true (tested .result) (c .before .if1 .taken))
 
 declared-front-requires : tie.Need-declared-front-requires
 declared-front-requires c κs = search needs
 
-add-refused : tie.Need-add-refused
-add-refused c = search needs
+add-not-done : tie.Need-add-not-done
+add-not-done c = search needs
 
-refused-requires-2 : tie.Need-refused-requires-2
-refused-requires-2 c κs = search needs
+not-done-requires-2 : tie.Need-not-done-requires-2
+not-done-requires-2 c κs = search needs
 
 returns-2 : tie.Need-returns-2
 returns-2 c =
     let found = c .before .before in
     let front = found .declared-front .ensures in
     let some = declared-no _ _ _ front (c .before .if2 .taken) in
-    simp (c .refused2 .ensures, is-sound-yes (found .before), some) (ap (λ r. refused 6 (r + 1)) front)
+    simp (c .not-done2 .ensures, is-sound-yes (found .before), some) (ap (λ r. refused 6 (r + 1)) front)
 
 cast-if3 : tie.Need-cast-if3
 cast-if3 c = search needs
 
-refused-requires-3 : tie.Need-refused-requires-3
-refused-requires-3 c κs = search needs
+not-done-requires-3 : tie.Need-not-done-requires-3
+not-done-requires-3 c κs = search needs
 
 returns-3 : tie.Need-returns-3
 returns-3 c =
     let before = c .before .before in
-    ap add-said (c .refused3 .ensures)
+    ap done-said (c .not-done3 .ensures)
     ∙ sym (simp (is-sound-yes (before .before .before), all-declared before, lt-ltb _ _ (c .before .if3 .taken)))
 
 room-of-requires : tie.Need-room-of-requires
@@ -97,13 +98,13 @@ room-of-requires c κs = search needs
 is-full-requires : tie.Need-is-full-requires
 is-full-requires c κs = search needs
 
-refused-requires-4 : tie.Need-refused-requires-4
-refused-requires-4 c κs = search needs
+not-done-requires-4 : tie.Need-not-done-requires-4
+not-done-requires-4 c κs = search needs
 
 returns-4 : tie.Need-returns-4
 returns-4 c =
     let tested = c .before .before in
-    ap add-said (c .refused4 .ensures) ∙ sym (not-long (tested .before .before) ∙ rw (full-is tested ∙ c .before .if4 .taken))
+    ap done-said (c .not-done4 .ensures) ∙ sym (not-long (tested .before .before) ∙ rw (full-is tested ∙ c .before .if4 .taken))
 
 cast-if5 : tie.Need-cast-if5
 cast-if5 c = search needs
@@ -111,10 +112,10 @@ cast-if5 c = search needs
 sub-if5 : tie.Need-sub-if5
 sub-if5 c =
     let same = c .before .before .before .before .room-of .ensures in
-    omega (arith, ap (λ r. r .last) same, ap (λ r. r .events) same, sound-facts _ (is-sound-yes (c .before .before .before .before .before .before .before .before)) .fits)
+    omega (arith, ap (λ r. r .last) same, ap (λ r. r .space .events) same, sound-facts _ (is-sound-yes (c .before .before .before .before .before .before .before .before)) .fits)
 
-refused-requires-5 : tie.Need-refused-requires-5
-refused-requires-5 c κs = search needs
+not-done-requires-5 : tie.Need-not-done-requires-5
+not-done-requires-5 c κs = search needs
 
 returns-5 : tie.Need-returns-5
 returns-5 c =
@@ -122,8 +123,8 @@ returns-5 c =
     let s = start (here .before .before .before .before .before .before .before .before) in
     let m = given s in
     let same = here .before .before .before .before .room-of .ensures in
-    ap add-said (c .refused5 .ensures)
-    ∙ sym (not-full (here .before .before) ∙ rw (lt-ltb (length (m .events)) (last-end m + length (s .args .trace .now)) (omega (arith, c .before .if5 .taken, ap (λ r. r .last) same, ap (λ r. r .events) same))))
+    ap done-said (c .not-done5 .ensures)
+    ∙ sym (not-full (here .before .before) ∙ rw (lt-ltb (length (m .events)) (last-end m + length (s .args .trace .now)) (omega (arith, c .before .if5 .taken, ap (λ r. r .last) same, ap (λ r. r .space .events) same))))
 
 returns-6 : tie.Need-returns-6
 returns-6 c =
@@ -133,28 +134,28 @@ returns-6 c =
     let same = here .before .before .before .before .room-of .ensures in
     sym
     (not-full (here .before .before)
-    ∙ rw (le-ltb (length (m .events)) (last-end m + length (s .args .trace .now)) (omega (arith, c .if5 .left, sub-if5 here, ap (λ r. r .last) same, ap (λ r. r .events) same))))
+    ∙ rw (le-ltb (length (m .events)) (last-end m + length (s .args .trace .now)) (omega (arith, c .if5 .left, sub-if5 here, ap (λ r. r .last) same, ap (λ r. r .space .events) same))))
 
 pub add-answer-spec : {M : Type 1} → statement M
 add-answer-spec =
     tie.close
     (tie.spec
     is-sound-requires
-    refused-requires
+    not-done-requires
     returns
     declared-front-requires
-    add-refused
-    refused-requires-2
+    add-not-done
+    not-done-requires-2
     returns-2
     cast-if3
-    refused-requires-3
+    not-done-requires-3
     returns-3
     room-of-requires
     is-full-requires
-    refused-requires-4
+    not-done-requires-4
     returns-4
     cast-if5
     sub-if5
-    refused-requires-5
+    not-done-requires-5
     returns-5
     returns-6)

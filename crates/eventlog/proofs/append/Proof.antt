@@ -5,7 +5,9 @@ use lib.ListN.{length}
 use native.Mathlib.Omega.{arith}
 use mathlib.Core.Path.{sym}
 use Rattle.eventlog.specs.Store.{most-traces, Memory, memory, last-end}
-use Rattle.eventlog.proofs.Adding.{accepted}
+use Rattle.base.proofs.Checks.{none-fail}
+use Rattle.eventlog.specs.Calls.{checks-of-add}
+use Rattle.eventlog.proofs.Adding.{add-passed}
 use Rattle.eventlog.proofs.Laws.{last-end-bound}
 use borrow.Author.Needs.{needs}
 use Rattle.eventlog.proofs.append.Statement.{statement}
@@ -28,12 +30,14 @@ bounds :
 unfolding last-end
 bounds c =
     let start = c .before .before .before .before .before in
-    let a = accepted (given start) (start .args .trace .now) [] (sym (start .pre)) in
+    let checks = checks-of-add (given start) (start .args .trace .now) in
+    let passed = add-passed (given start) (start .args .trace .now) (none-fail checks [] [] (sym (start .pre))) in
+    let a = passed .addable in
     record {
-      fits = omega (arith, c .last-end .ensures, a .1 .fits);
-      small = omega (arith, c .last-end .ensures, last-end-bound _ (a .0), a .1 .short, a .1 .below-most);
-      few = a .1 .below-most;
-      has-end = a .1 .has-end;
+      fits = omega (arith, c .last-end .ensures, a .fits);
+      small = omega (arith, c .last-end .ensures, last-end-bound _ (passed .is-sound), a .short, a .below-most);
+      few = a .below-most;
+      has-end = a .has-end;
     }
 
 last-end-requires : tie.Need-last-end-requires

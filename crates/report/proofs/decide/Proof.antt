@@ -9,8 +9,9 @@ use mathlib.Core.List.{List}
 use lib.ListN.{length, drop, length-drop}
 use lib.Seq.{take-all}
 use denote.Ref.{now}
-use Rattle.report.proofs.SettingsLine.{LaidOut, set-by}
-use Rattle.report.proofs.Deciding.{OpenedStore, opened, too-long, malformed, undeclarable, out-of-range, goes-on}
+use Rattle.eventlog.specs.Calls.{empty}
+use Rattle.report.proofs.Setting.{LaidOut, set-by}
+use Rattle.report.proofs.Deciding.{OpenedStore, open-accepted, too-long, malformed, undeclarable, out-of-range, goes-on}
 use Rattle.report.proofs.decide.Statement.{statement}
 use Rattle.report.proofs.decide.Tie as tie
 
@@ -41,7 +42,7 @@ abbrev input : tie.After-known-told → List ℕ
 input c = now (c .before .before .before .before .before .before .args .input)
 
 laid-out : (c : tie.After-known-told) → LaidOut (input c) (c .before .activities .given .0 .0) (c .before .activities .given .0 .1 .0)
-laid-out c = set-by _ _ _ (sym (c .before .before .before .read-settings .ensures) ∙ c .before .activities .given .1)
+laid-out c = set-by (sym (c .before .before .before .read-settings .ensures) ∙ c .before .activities .given .1)
 
 open-requires : tie.Need-open-requires
 open-requires c κs = search needs
@@ -50,7 +51,7 @@ enum-known-store : tie.Need-enum-known-store
 enum-known-store c = search needs
 
 fresh : (c : tie.After-store) → OpenedStore (c .before .before .before .before .activities .given .0 .0) (c .store .given .0 .0)
-fresh c = opened _ _ (rw (c .store .given .1) at (c .before .before .open .ensures))
+fresh c = open-accepted (rw (c .store .given .1) at (c .before .before .open .ensures (empty 0)))
 
 in-range-requires : tie.Need-in-range-requires
 in-range-requires c κs = search needs
@@ -98,7 +99,7 @@ returns-5 : tie.Need-returns-5
 returns-5 c =
     let set = c .before .before .before .before in
     undeclarable _ _ (set .before .before .before .before .if1 .left) _ _ (laid-out set) _
-    (rw (c .before .refusal .given .1) at (c .before .before .before .open .ensures))
+    (rw (c .before .refusal .given .1) at (c .before .before .before .open .ensures (empty 0)))
 
 pub decide-spec : {M : Type 1} → statement M
 decide-spec =

@@ -25,7 +25,7 @@ returns c =
     let read = c .before .before .before .before .before .before .before .before .before in
     let start = read .before .before .before .before in
     let a = start .args in
-    added-decides (a .store .activities) (a .threshold) (now (a .log)) (start .pre .0) (lent-arrays (a .events) (a .ends) (a .list))
+    added-decides (a .store .activities) (a .settings) (now (a .log)) (start .pre .0) (lent-arrays (a .events) (a .ends) (a .list))
     (record { events = omega arith; ends = omega arith }) _ _ _ _ (omega arith)
     (rw (start .pre .1, c .before .before .before .before .before .before .enum-told .given .1) at (read .read .ensures)) (c .find .ensures)
 
@@ -34,7 +34,7 @@ returns-2 c =
     let read = c .before .before .before .before in
     let start = read .before .before .before .before in
     let a = start .args in
-    not-added-decides (a .store .activities) (a .threshold) (now (a .log)) (start .pre .0) (lent-arrays (a .events) (a .ends) (a .list))
+    not-added-decides (a .store .activities) (a .settings) (now (a .log)) (start .pre .0) (lent-arrays (a .events) (a .ends) (a .list))
     (record { events = omega arith; ends = omega arith }) _ _
     (rw (start .pre .1, c .before .answer .given .1) at (read .read .ensures))
 

@@ -12,7 +12,7 @@ use lib.ListN.{take, drop}
 use lib.Seq.{length-take-le}
 use Rattle.fields.specs.Field.{field-of}
 use Rattle.report.specs.Stages.{settings-of}
-use Rattle.report.proofs.SettingsLine.{cut-short, no-line-feed, both-set, fields-set}
+use Rattle.report.proofs.Setting.{cut-short, no-line-feed, both-set, fields-set}
 use Rattle.report.proofs.read_settings.Statement.{statement}
 use Rattle.report.proofs.read_settings.Tie as tie
 

@@ -12,7 +12,7 @@ print-requires : tie.Need-print-requires
 print-requires c κs = search needs
 
 returns : tie.Need-returns
-returns c = printed-reports _ _ _ _ (c .before .before .before .decide .ensures) (c .print .ensures)
+returns c = printed-reports (c .before .before .before .decide .ensures) (c .print .ensures)
 
 pub report-spec : {M : Type 1} → statement M
 report-spec = tie.close (tie.spec decide-requires print-requires returns)

@@ -26,7 +26,7 @@ first-turns-requires c κs =
     (few .0, omega arith, omega arith)
 
 returns : tie.Need-returns
-returns c = starts-refused _ _ _ (c .before .before .start-answer .ensures) _ (c .enum-told .given .0 .0) (c .enum-told .given .1)
+returns c = λ there. starts-refused _ _ _ (c .before .before .start-answer .ensures) (c .enum-told .given .0 .0) (c .enum-told .given .1) there _
 
 returns-2 : tie.Need-returns-2
 returns-2 c =
@@ -35,7 +35,7 @@ returns-2 c =
     let said = ap start-said (sym (told .answer .given .1)) ∙ told .before .before .start-answer .ensures in
     let states-long = c .before .before .first-turns-arg .given .0 .1 in
     let told-long = c .before .first-turns-arg2 .given .0 .1 in
-    starts-started (args .activities) (args .numbers .now) _ said _ refl _ _ (omega arith) (omega arith) (c .first-turns .ensures)
+    λ there. starts-started (args .activities) (args .numbers .now) _ said _ refl there _ _ (omega arith) (omega arith) (c .first-turns .ensures)
 
 pub start-spec : {M : Type 1} → statement M
 start-spec =

@@ -3,7 +3,7 @@ use native.Mathlib.Omega.{arith}
 use mathlib.Core.Path.{sym, ap, _∙_}
 use borrow.Author.Needs.{needs}
 use lib.ListN.{length}
-use Rattle.watcher.specs.Calls.{step-said}
+use Rattle.answers.specs.Answers.{done-said}
 use Rattle.watcher.proofs.Stepping.{Fits, fits, steps-refused, steps-taken}
 use Rattle.watcher.proofs.step.Statement.{statement}
 use Rattle.watcher.proofs.step.Tie as tie
@@ -12,7 +12,7 @@ use Rattle.watcher.proofs.step.Tie as tie
 fits-so : (c : tie.After-enum-told2) →
     let args = c .before .before .before .before .args in
     Fits (args .watcher) (length (args .numbers .now)) (args .activity)
-fits-so c = fits _ _ _ (ap step-said (sym (c .enum-told2 .given .1)) ∙ c .before .before .step-answer .ensures)
+fits-so c = fits _ _ _ (ap done-said (sym (c .enum-told2 .given .1)) ∙ c .before .before .step-answer .ensures)
 
 step-answer-requires : tie.Need-step-answer-requires
 step-answer-requires c κs = search needs

@@ -14,25 +14,25 @@ usable-yes c = sym (c .before .is-usable .ensures) ∙ not-false (c .before .is-
 is-usable-requires : tie.Need-is-usable-requires
 is-usable-requires c κs = search needs
 
-not-taken-requires : tie.Need-not-taken-requires
-not-taken-requires c κs = search needs
+not-done-requires : tie.Need-not-done-requires
+not-done-requires c κs = search needs
 
 returns : tie.Need-returns
 returns c =
     let tested = c .before .before .is-usable in
-    simp (c .not-taken .ensures, ← tested .ensures, not-true (tested .result) (c .before .if1 .taken))
+    simp (c .not-done .ensures, ← tested .ensures, not-true (tested .result) (c .before .if1 .taken))
 
-not-taken-requires-2 : tie.Need-not-taken-requires-2
-not-taken-requires-2 c κs = search needs
+not-done-requires-2 : tie.Need-not-done-requires-2
+not-done-requires-2 c κs = search needs
 
 returns-2 : tie.Need-returns-2
 returns-2 c =
     let args = c .before .before .before .before .before .args in
     let high = c .before .if2 .taken in
-    simp (c .not-taken2 .ensures, usable-yes (c .before .before .before), le-ltb (args .activity) (args .watcher .activities) (omega arith))
+    simp (c .not-done2 .ensures, usable-yes (c .before .before .before), le-ltb (args .activity) (args .watcher .activities) (omega arith))
 
-not-taken-requires-3 : tie.Need-not-taken-requires-3
-not-taken-requires-3 c κs = search needs
+not-done-requires-3 : tie.Need-not-done-requires-3
+not-done-requires-3 c κs = search needs
 
 returns-3 : tie.Need-returns-3
 returns-3 c =
@@ -41,7 +41,7 @@ returns-3 c =
     let low = declared .if2 .left in
     let many = c .before .if3 .taken in
     simp (
-      c .not-taken3 .ensures,
+      c .not-done3 .ensures,
       usable-yes (declared .before .before),
       lt-ltb (args .activity) (args .watcher .activities) (omega arith),
       le-leb 4096 (args .watcher .taken) (omega arith),
@@ -64,10 +64,10 @@ step-answer-spec =
     tie.close
     (tie.spec
     is-usable-requires
-    not-taken-requires
+    not-done-requires
     returns
-    not-taken-requires-2
+    not-done-requires-2
     returns-2
-    not-taken-requires-3
+    not-done-requires-3
     returns-3
     returns-4)

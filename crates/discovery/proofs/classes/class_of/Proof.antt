@@ -6,15 +6,14 @@ use native.Mathlib.Omega.{arith}
 use lib.Dec.{eqb}
 use borrow.Author.Tests.{ne-eqb, eq-eqb}
 use mathlib.Core.Bool.{_||_}
-use Rattle.base.specs.Logic.{if_then_else_}
-use Rattle.declare.specs.Meaning.{between}
-use Rattle.declare.proofs.Ranges.{inside, below, above}
+use Rattle.base.specs.Logic.{if_then_else_, in-range}
+use Rattle.base.proofs.Ranges.{inside, below, above}
 use Rattle.discovery.specs.Question.{class-of}
 use Rattle.discovery.specs.declared.classes.Class.the-variants.{Either, Both}
 use Rattle.discovery.proofs.classes.class_of.Statement.{statement}
 use Rattle.discovery.proofs.classes.class_of.Tie as tie
 
-pairs : (n : ℕ) → 9 ≤ n → class-of n ≡ if between 9 n 10 || eqb n 12 || between 23 n 24 then Either else Both
+pairs : (n : ℕ) → 9 ≤ n → class-of n ≡ if in-range 9 n 10 || eqb n 12 || in-range 23 n 24 then Either else Both
 pairs n h =
     simp (above 1 n 3 (omega arith), above 7 n 8 (omega arith), above 4 n 6 (omega arith))
 

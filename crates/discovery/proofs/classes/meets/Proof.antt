@@ -16,7 +16,7 @@ cast-result-2 c = omega (arith, c .struct-known2 .given)
 mul-result : tie.Need-mul-result
 mul-result c =
     let measure = c .before .before .args .measure in
-    let low : measure .threshold ≤ 4294967295 = omega (arith, c .before .struct-known .given) in
+    let low : measure .settings .threshold ≤ 4294967295 = omega (arith, c .before .struct-known .given) in
     let few : measure .traces ≤ 4294967295 = omega (arith, c .struct-known2 .given) in
     let fits = mul-le-mul low few in
     omega arith

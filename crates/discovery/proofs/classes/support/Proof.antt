@@ -22,7 +22,7 @@ cast-kept : tie.Need-cast-kept Inv-loop μ-loop
 cast-kept c = omega (arith, c .struct-known .given)
 
 loop-holds : tie.Need-loop-holds Inv-loop μ-loop
-loop-holds c = counting-start _ _ (c .before .before .before .pre .0)
+loop-holds c = counting-start _ (c .before .before .before .pre .0)
 
 mul-end : tie.Need-mul-end Inv-loop μ-loop
 mul-end c = omega arith
@@ -34,13 +34,13 @@ cast-end : tie.Need-cast-end Inv-loop μ-loop
 cast-end c = omega (arith, c .shared-slice-known3 .given (c .before .before .loop .k))
 
 sub-trace : tie.Need-sub-trace Inv-loop μ-loop
-sub-trace c = starts-before _ _ _ _ _ _ _ (c .before .before .loop .inv) (c .before .loop-test .taken)
+sub-trace c = starts-before (c .before .before .loop .inv) (c .before .loop-test .taken)
 
 part-trace-start : tie.Need-part-trace-start Inv-loop μ-loop
-part-trace-start c = starts-before _ _ _ _ _ _ _ (c .before .before .loop .inv) (c .before .loop-test .taken)
+part-trace-start c = starts-before (c .before .before .loop .inv) (c .before .loop-test .taken)
 
 part-trace-end : tie.Need-part-trace-end Inv-loop μ-loop
-part-trace-end c = ends-within _ _ _ _ _ _ _ (c .before .before .loop .inv) (c .before .loop-test .taken)
+part-trace-end c = ends-within (c .before .before .loop .inv) (c .before .loop-test .taken)
 
 counts-for-requires : tie.Need-counts-for-requires Inv-loop μ-loop
 counts-for-requires c κs = search needs
@@ -58,17 +58,17 @@ loop-again : tie.Need-loop-again Inv-loop μ-loop
 loop-again c =
     let l = c .before .before .before .before in
     let more = c .before .before .before .loop-test .taken in
-    let next = counting-next _ _ _ _ _ _ _ (l .loop .inv) more in
+    let next = counting-next (l .loop .inv) more in
     ⊎-elim (λ w. rw (w .3) (rw (w .2 .taken) at (next (w .0 .taken) _ (sym (w .1 .ensures)))))
     (λ v. rw (v .1)
     (⊎-elim (λ w. rw (w .2 .left) at (next (w .0 .taken) _ (sym (w .1 .ensures))))
-    (λ w. counting-empty _ _ _ _ _ _ _ (l .loop .inv) more (w .left)) (v .0 .came)))
+    (λ w. counting-empty (l .loop .inv) more (w .left)) (v .0 .came)))
     (c .if1 .came)
 
 returns : tie.Need-returns Inv-loop μ-loop
 unfolding kept support
 returns c =
-    rw (← c .before .before .before .before .before .pre .1) (counting-done _ _ _ _ _ _ _ (c .before .loop .inv) (c .loop-test .left))
+    rw (← c .before .before .before .before .before .pre .1) (counting-done (c .before .loop .inv) (c .loop-test .left))
 
 pub support-spec : {M : Type 1} → statement M
 support-spec =

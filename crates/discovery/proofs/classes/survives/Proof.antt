@@ -11,7 +11,7 @@ always-requires c κs = search needs
 
 -- whether the constraint's class is kept always
 kept-always : (c : tie.After-always) → always (class-of (c .before .before .before .args .c .template)) ≡ c .always .result
-kept-always c = sym (c .always .ensures ∙ ap always (c .before .before .before .pre .1 .1))
+kept-always c = sym (c .always .ensures ∙ ap always (c .before .before .before .pre .1))
 
 returns : tie.Need-returns
 returns c = rw (kept-always (c .before) ∙ c .if1 .taken)
@@ -27,7 +27,7 @@ returns-2 c =
     let tested = c .before .before in
     let start = tested .before .before .before .before in
     c .meets .ensures
-    ∙ by-support _ _ _ (start .args .c) (start .pre .1 .0) (kept-always (tested .before) ∙ tested .if1 .left)
+    ∙ by-support (start .args .c) (start .pre .0) (kept-always (tested .before) ∙ tested .if1 .left)
     (c .before .support .ensures)
 
 pub survives-spec : {M : Type 1} → statement M

@@ -23,7 +23,7 @@ cast-kept : tie.Need-cast-kept Inv-loop μ-loop
 cast-kept c = omega (arith, c .struct-known .given)
 
 loop-holds : tie.Need-loop-holds Inv-loop μ-loop
-loop-holds c = counting-start _ _ (c .before .pre)
+loop-holds c = counting-start _ (c .before .pre)
 
 mul-end : tie.Need-mul-end Inv-loop μ-loop
 mul-end c = omega arith
@@ -35,13 +35,13 @@ cast-end : tie.Need-cast-end Inv-loop μ-loop
 cast-end c = omega (arith, c .shared-slice-known .given (c .before .before .loop .k))
 
 sub-trace : tie.Need-sub-trace Inv-loop μ-loop
-sub-trace c = starts-before _ _ _ _ _ _ _ (c .before .before .loop .inv) (c .before .loop-test .taken)
+sub-trace c = starts-before (c .before .before .loop .inv) (c .before .loop-test .taken)
 
 part-trace-start : tie.Need-part-trace-start Inv-loop μ-loop
-part-trace-start c = starts-before _ _ _ _ _ _ _ (c .before .before .loop .inv) (c .before .loop-test .taken)
+part-trace-start c = starts-before (c .before .before .loop .inv) (c .before .loop-test .taken)
 
 part-trace-end : tie.Need-part-trace-end Inv-loop μ-loop
-part-trace-end c = ends-within _ _ _ _ _ _ _ (c .before .before .loop .inv) (c .before .loop-test .taken)
+part-trace-end c = ends-within (c .before .before .loop .inv) (c .before .loop-test .taken)
 
 add-count : tie.Need-add-count Inv-loop μ-loop
 add-count c = omega arith
@@ -56,14 +56,14 @@ loop-again : tie.Need-loop-again Inv-loop μ-loop
 loop-again c =
     let inv = c .before .before .before .before .loop .inv in
     let more = c .before .before .before .loop-test .taken in
-    ⊎-elim (λ w. rw (w .1) (counting-next _ _ _ _ _ _ _ inv more (w .0 .taken) true refl))
-    (λ w. rw (w .1) (counting-empty _ _ _ _ _ _ _ inv more (w .0 .left))) (c .if1 .came)
+    ⊎-elim (λ w. rw (w .1) (counting-next inv more (w .0 .taken) true refl))
+    (λ w. rw (w .1) (counting-empty inv more (w .0 .left))) (c .if1 .came)
 
 returns : tie.Need-returns Inv-loop μ-loop
 unfolding kept
 returns c =
     let args = c .before .before .before .args in
-    counting-done _ _ _ _ _ _ _ (c .before .loop .inv) (c .loop-test .left)
+    counting-done (c .before .loop .inv) (c .loop-test .left)
     ∙ count-all any-trace (λ trace. refl) (filter non-empty (kept (memory (args .store) (args .events .now) (args .ends .now))))
 
 pub trace-count-spec : {M : Type 1} → statement M

@@ -22,7 +22,7 @@ use Rattle.discovery.proofs.list.pass.Tie as tie
 
 abbrev Inv-loop : tie.InvT-loop
 Inv-loop store events ends measure list₀ n all found₀ c₀ class₀ known₀ automaton₀ place₀ list found c class known automaton place =
-    Passes (asked (memory store events ends) (measure .threshold)) (take place (constraints (store .activities))) found₀ list₀ found list
+    Passes (asked (memory store events ends) (measure .settings)) (take place (constraints (store .activities))) found₀ list₀ found list
     × (place < all → c ≡ at (store .activities) place) × (all ≡ length (constraints (store .activities))) × (place ≤ all)
     × (class ≡ class-of (c .template)) × (automaton ≡ automaton-of known)
 
@@ -38,7 +38,7 @@ unfolding automaton-of
 none-known = refl
 
 cast-n : tie.Need-cast-n Inv-loop μ-loop
-cast-n c = omega (arith, sound-facts _ (c .before .before .before .before .pre .0) .few-activities)
+cast-n c = omega (arith, sound-facts _ (c .before .before .before .before .pre .is-sound) .few-activities)
 
 constraint-count-requires : tie.Need-constraint-count-requires Inv-loop μ-loop
 constraint-count-requires c κs = search needs
@@ -56,8 +56,8 @@ loop-holds : tie.Need-loop-holds Inv-loop μ-loop
 loop-holds c =
     let first = c .before .before in
     let s = first .before .before .before .before .before .before in (
-      passes-none _ _ _,
-      λ some. first .first-constraint .ensures ∙ sym (starts (s .args .store .activities) (sound-facts _ (s .pre .0) .some-activity)),
+      passes-none,
+      λ some. first .first-constraint .ensures ∙ sym (starts (s .args .store .activities) (sound-facts _ (s .pre .is-sound) .some-activity)),
       first .before .constraint-count .ensures,
       omega arith,
       c .before .class-of .ensures,
@@ -65,7 +65,7 @@ loop-holds c =
     )
 
 survives-requires : tie.Need-survives-requires Inv-loop μ-loop
-survives-requires c κs = let pre = start-of (c .before) .pre in (pre .0, (pre .1, c .before .loop .inv .4))
+survives-requires c κs = (start-of (c .before) .pre, c .before .loop .inv .4)
 
 at-hand-requires : tie.Need-at-hand-requires Inv-loop μ-loop
 at-hand-requires c κs = c .before .before .before .loop .inv .5
@@ -78,16 +78,14 @@ consider-requires c κs =
     let s = start-of (t .before .before) in
     let n = s .args .store .activities in
     let more : l .place < length (constraints n) = omega (arith, l .inv .2, t .before .loop-test .taken) in (
-      s .pre .0,
+      s .pre,
       (
-        s .pre .1,
-        (
-          sym (t .survives .ensures) ∙ h .before .if1 .taken,
-          (
-            subst (Over n) (sym (l .inv .1 (t .before .loop-test .taken))) (at-over n (l .place) more),
-            (h .at-hand .ensures, passes-few _ n (l .place) _ _ _ (omega arith) (l .inv .0)),
-          ),
-        ),
+        record {
+          over = subst (Over n) (sym (l .inv .1 (t .before .loop-test .taken))) (at-over n (l .place) more);
+          survived = sym (t .survives .ensures) ∙ h .before .if1 .taken;
+          of-template = h .at-hand .ensures;
+        },
+        passes-few n (l .place) (omega arith) (l .inv .0),
       ),
     )
 
@@ -111,9 +109,9 @@ loop-again c =
     let n = start-of (t .before .before) .args .store .activities in
     let more : l .place < length (constraints n) = omega (arith, l .inv .2, t .before .loop-test .taken) in
     let here = l .inv .1 (t .before .loop-test .taken) in (
-      passes-next _ (constraints n) (l .place) _ _ _ _ _ _ _ _ more here (l .inv .0)
+      passes-next (constraints n) (l .place) _ more here (l .inv .0)
           (⊎-elim (λ w. rw (w .6, w .7) (w .3 .ensures))
-          (λ w. rw (w .1, w .2) (passes-pruned _ _ _ _ (sym (t .survives .ensures) ∙ w .0 .left)))
+          (λ w. rw (w .1, w .2) (passes-pruned (sym (t .survives .ensures) ∙ w .0 .left)))
           (j .came)),
       λ further. c .before .next-constraint .ensures ∙ ap (next n) here ∙ sym (visits n (l .place) (omega (arith, further, l .inv .2))),
       l .inv .2,
@@ -123,7 +121,7 @@ loop-again c =
     )
 
 same-length : tie.Need-same-length Inv-loop μ-loop
-same-length c = passes-length _ _ _ _ _ _ (c .before .loop .inv .0)
+same-length c = passes-length (c .before .loop .inv .0)
 
 returns : tie.Need-returns Inv-loop μ-loop
 returns c =

@@ -11,17 +11,17 @@ use Rattle.discovery.proofs.replay.fulfilled_by.Statement.{statement}
 use Rattle.discovery.proofs.replay.fulfilled_by.Tie as tie
 
 abbrev Inv-loop : tie.InvT-loop
-Inv-loop moves verdicts events ends threshold traces fulfilled₀ from₀ k₀ count from k =
+Inv-loop moves verdicts events ends traces fulfilled₀ from₀ k₀ count from k =
     Counting (replays-fulfilled moves verdicts) events ends traces count from k
 
 abbrev μ-loop : tie.MeasureT-loop
-μ-loop moves verdicts events ends threshold traces fulfilled₀ from₀ k₀ count from k = traces - k
+μ-loop moves verdicts events ends traces fulfilled₀ from₀ k₀ count from k = traces - k
 
 cast-traces : tie.Need-cast-traces Inv-loop μ-loop
 cast-traces c = omega (arith, c .struct-known .given)
 
 loop-holds : tie.Need-loop-holds Inv-loop μ-loop
-loop-holds c = counting-start _ _ (c .before .before .before .pre .1 .1 .0)
+loop-holds c = counting-start _ (c .before .before .before .pre .1 .0)
 
 mul-to : tie.Need-mul-to Inv-loop μ-loop
 mul-to c = omega arith
@@ -33,18 +33,18 @@ cast-to : tie.Need-cast-to Inv-loop μ-loop
 cast-to c = omega (arith, c .shared-slice-known3 .given (c .before .before .loop .k))
 
 sub-trace : tie.Need-sub-trace Inv-loop μ-loop
-sub-trace c = starts-before _ _ _ _ _ _ _ (c .before .before .loop .inv) (c .before .loop-test .taken)
+sub-trace c = starts-before (c .before .before .loop .inv) (c .before .loop-test .taken)
 
 part-trace-start : tie.Need-part-trace-start Inv-loop μ-loop
-part-trace-start c = starts-before _ _ _ _ _ _ _ (c .before .before .loop .inv) (c .before .loop-test .taken)
+part-trace-start c = starts-before (c .before .before .loop .inv) (c .before .loop-test .taken)
 
 part-trace-end : tie.Need-part-trace-end Inv-loop μ-loop
-part-trace-end c = ends-within _ _ _ _ _ _ _ (c .before .before .loop .inv) (c .before .loop-test .taken)
+part-trace-end c = ends-within (c .before .before .loop .inv) (c .before .loop-test .taken)
 
 is-fulfilled-requires : tie.Need-is-fulfilled-requires Inv-loop μ-loop
 is-fulfilled-requires c κs =
     let l = c .before .before .before in
-    part-non-empty _ _ _ _ _ _ _ (l .before .loop .inv) (l .loop-test .taken) (c .if1 .taken)
+    part-non-empty (l .before .loop .inv) (l .loop-test .taken) (c .if1 .taken)
 
 add-fulfilled : tie.Need-add-fulfilled Inv-loop μ-loop
 add-fulfilled c = omega arith
@@ -59,19 +59,19 @@ loop-again : tie.Need-loop-again Inv-loop μ-loop
 loop-again c =
     let l = c .before .before .before .before in
     let more = c .before .before .before .loop-test .taken in
-    let next = counting-next _ _ _ _ _ _ _ (l .loop .inv) more in
+    let next = counting-next (l .loop .inv) more in
     ⊎-elim (λ w. rw (w .3) (rw (w .2 .taken) at (next (w .0 .taken) _ (sym (w .1 .ensures)))))
     (λ v. rw (v .1)
     (⊎-elim (λ w. rw (w .2 .left) at (next (w .0 .taken) _ (sym (w .1 .ensures))))
-    (λ w. counting-empty _ _ _ _ _ _ _ (l .loop .inv) more (w .left)) (v .0 .came)))
+    (λ w. counting-empty (l .loop .inv) more (w .left)) (v .0 .came)))
     (c .if1 .came)
 
 returns : tie.Need-returns Inv-loop μ-loop
 unfolding kept
 returns c =
     let pre = c .before .before .before .before .before .pre in
-    counting-done _ _ _ _ _ _ _ (c .before .loop .inv) (c .loop-test .left)
-    ∙ replay-counts _ _ _ _ (pre .1 .1 .0) (pre .1 .1 .1 .0) (pre .0) (pre .1 .0)
+    counting-done (c .before .loop .inv) (c .loop-test .left)
+    ∙ replay-counts _ (pre .1 .0) (pre .1 .1) (pre .0)
 
 pub fulfilled-by-spec : {M : Type 1} → statement M
 fulfilled-by-spec =

@@ -15,13 +15,18 @@ moves-requires c κs = search needs
 fulfilled-by-requires : tie.Need-fulfilled-by-requires
 fulfilled-by-requires c κs =
     let s = c .before .before .before .before in
-    let same = s .pre .1 .1 .1 .0 in
-    (c .before .moves .ensures ∙ ap (λ m. moves-of m (s .args .c .a) (s .args .c .b)) same, (ap (λ m. m .verdicts) same, (s .pre .0, (s .pre .1 .1 .0, s .pre .1 .0))))
+    let same = s .pre .1 .0 .of-template in (
+      record {
+        same-moves = c .before .moves .ensures ∙ ap (λ m. moves-of m (s .args .c .a) (s .args .c .b)) same;
+        same-verdicts = ap (λ m. m .verdicts) same;
+      },
+      (s .pre .0, s .pre .1 .0 .over),
+    )
 
 add-t12 : tie.Need-add-t12
 add-t12 c =
     let s = c .before .before .before .before .before in
-    omega (arith, few-numbers (s .args .store .activities) (s .args .replayed) (sound-facts _ (s .pre .0) .few-activities) (s .pre .1 .1 .1 .1))
+    omega (arith, few-numbers (s .args .store .activities) (s .args .replayed) (sound-facts _ (s .pre .0) .few-activities) (s .pre .1 .1))
 
 returns : tie.Need-returns
 returns c = search needs

@@ -14,29 +14,30 @@ use Rattle.base.proofs.Bools.{and-left, either}
 use Rattle.base.proofs.Lists.{take-drop}
 use Rattle.fields.specs.declared.Field.{Field}
 use Rattle.fields.specs.Field.{line-feed, well-formed, value, widest, field-of}
-use Rattle.report.specs.declared.Settings.{Settings}
-use Rattle.report.specs.Report.{settings-laid-out, activities-set, threshold-set}
+use Rattle.discovery.specs.declared.Settings.{Settings}
+use Rattle.report.specs.declared.SettingsLine.{SettingsLine}
+use Rattle.report.specs.Report.{settings-laid-out, activities-set, settings-set}
 use Rattle.report.specs.Stages.{settings-of}
 
-pub cut-short : (input : List ℕ) → length input < 8 → settings-of input ≡ Settings.Malformed
+pub cut-short : (input : List ℕ) → length input < 8 → settings-of input ≡ SettingsLine.Malformed
 unfolding settings-laid-out
 cut-short input h = rw (lt-leb 8 (length input) h)
 
-pub no-line-feed : (input : List ℕ) → eqb (getD input 7 0) line-feed ≡ false → settings-of input ≡ Settings.Malformed
+pub no-line-feed : (input : List ℕ) → eqb (getD input 7 0) line-feed ≡ false → settings-of input ≡ SettingsLine.Malformed
 unfolding settings-laid-out
 no-line-feed input h = rw (h, and-false)
 
 -- ## Two fields and a line feed
 
-abbrev pub both-set : Field → Field → Settings
-both-set (Field.Number n) (Field.Number threshold) = Settings.Set n threshold
-both-set (Field.Number n) Field.Malformed = Settings.Malformed
-both-set Field.Malformed threshold = Settings.Malformed
+abbrev pub both-set : Field → Field → SettingsLine
+both-set (Field.Number n) (Field.Number threshold) = SettingsLine.Set n (record { threshold = threshold })
+both-set (Field.Number n) Field.Malformed = SettingsLine.Malformed
+both-set Field.Malformed threshold = SettingsLine.Malformed
 
 both-by :
     (p q : Bool) (n threshold : ℕ) →
     both-set (if p then Field.Number n else Field.Malformed) (if q then Field.Number threshold else Field.Malformed)
-    ≡ (if p && q && true then Settings.Set n threshold else Settings.Malformed)
+    ≡ (if p && q && true then SettingsLine.Set n (record { threshold = threshold }) else SettingsLine.Malformed)
 both-by true true n threshold = refl
 both-by true false n threshold = refl
 both-by false q n threshold = refl
@@ -44,7 +45,7 @@ both-by false q n threshold = refl
 pub fields-set :
     (input : List ℕ) → 8 ≤ length input → eqb (getD input 7 0) line-feed ≡ true →
     both-set (field-of (take 3 input)) (field-of (take 4 (drop 3 input))) ≡ settings-of input
-unfolding settings-laid-out activities-set threshold-set
+unfolding settings-laid-out activities-set settings-set
 fields-set input long feed =
     let three : leb (length (slice 0 3 input)) widest ≡ true = le-leb (length (slice 0 3 input)) widest (omega (arith, length-slice 0 3 input (omega arith))) in
     let four : leb (length (slice 3 7 input)) widest ≡ true = le-leb (length (slice 3 7 input)) widest (omega (arith, length-slice 3 7 input (omega arith))) in
@@ -53,11 +54,11 @@ fields-set input long feed =
 
 -- ## What the settings say of the line
 
-pub record LaidOut (input : List ℕ) (n threshold : ℕ) : Type 0 where
+pub record LaidOut (input : List ℕ) (n : ℕ) (settings : Settings) : Type 0 where
   pub laid-out : settings-laid-out input ≡ true
   pub long : 8 ≤ length input
   pub activities : n ≡ activities-set input
-  pub threshold-is : threshold ≡ threshold-set input
+  pub settings-are : settings ≡ settings-set input
 
 long-enough : (input : List ℕ) → settings-laid-out input ≡ true → 8 ≤ length input
 unfolding settings-laid-out
@@ -66,11 +67,11 @@ long-enough input h =
     (and-left _ (well-formed (slice 0 3 input))
     (and-left _ (well-formed (slice 3 7 input)) (and-left _ (eqb (getD input 7 0) line-feed) h)))
 
-pub set-by : (input : List ℕ) (n threshold : ℕ) → settings-of input ≡ Settings.Set n threshold → LaidOut input n threshold
-set-by input n threshold e =
+pub set-by : {input : List ℕ} {n : ℕ} {settings : Settings} → settings-of input ≡ SettingsLine.Set n settings → LaidOut input n settings
+set-by {input = input} e =
     either (settings-laid-out input)
-    (λ h. let set = rw h at e in record { laid-out = h; long = long-enough input h; activities = cc; threshold-is = cc })
+    (λ h. let set = rw h at e in record { laid-out = h; long = long-enough input h; activities = cc; settings-are = cc })
     (λ h. let z : _≡_ {A = ℕ} 0 1 = cc (rw h at e) in absurd (omega arith))
 
-pub malformed-by : (input : List ℕ) → settings-of input ≡ Settings.Malformed → settings-laid-out input ≡ false
+pub malformed-by : (input : List ℕ) → settings-of input ≡ SettingsLine.Malformed → settings-laid-out input ≡ false
 malformed-by input e = either (settings-laid-out input) (λ h. cc (rw h at e)) (λ h. h)
