@@ -94,44 +94,45 @@ module _ (n : ℕ) (numbers : List ℕ) (before : Slots) (trace : List ℕ) (m :
 abbrev one-taken : Watcher → Watcher
 one-taken w = record { activities = w .activities; constraints = w .constraints; taken = w .taken + 1 }
 
-module _ (numbers : List ℕ) (m : Watched) (activity : ℕ) (answer : DoneAnswer)
+abbrev Told : ℕ → ℕ → Type 0
+Told number detail = ends-so (refused number detail) ≡ true
+
+module _ {numbers : List ℕ} {m : Watched} {activity : ℕ} {answer : DoneAnswer}
     (said : done-said answer ≡ reply (checks-of-step (m .watcher) (length numbers) activity) []) where
-  abbrev Told : ℕ → ℕ → Type 0
-  Told number detail = ends-so (refused number detail) ≡ true
-
-  each-told : Each Told (checks-of-step (m .watcher) (length numbers) activity)
-  each-told = (refl, λ usable-it. (refl, λ declared. (refl, λ short. tt)))
-
-  pub steps-refused : (refusal : Refusal) → answer ≡ DoneAnswer.Refused refusal → Steps numbers m activity (done-said answer) m
-  steps-refused refusal e =
+  pub steps-refused : {refusal : Refusal} → answer ≡ DoneAnswer.Refused refusal → Steps numbers m activity (done-said answer) m
+  steps-refused e =
       record {
-        ends = rw e (refused-each Told (checks-of-step (m .watcher) (length numbers) activity) [] (refusal .number) (refusal .detail) each-told (sym (rw e at said)));
+        ends =
+            rw e
+            (refused-each Told (checks-of-step (m .watcher) (length numbers) activity) [] _ _
+            (refl, λ usable-it. (refl, λ declared. (refl, λ short. tt))) (sym (rw e at said)));
         made = λ n before trace made. outcome-refused (said ∙ made-reply n numbers before trace m made activity) (ap done-said e);
       }
 
-  module _ (e : answer ≡ DoneAnswer.Done) (states-fit : length (m .slots .states) ≡ 256) (told-fit : length (m .slots .told) ≡ 256) (l : Slots)
-      (turned : l ≡ each-of (turn-by (table (eqb (m .watcher .activities) 1)) numbers activity) (m .watcher .constraints) 0 (m .slots)) where
-    -- what is left where a start and steps made the memory
-    next-is :
-        (n : ℕ) (before : Slots) (trace : List ℕ) → Made n numbers before trace m →
-        record { watcher = one-taken (m .watcher); slots = l } ≡ watched-after n numbers before (trace ++ (activity ∷ []))
-    next-is n before trace made =
-        let many = not-many n numbers (made .accepted) in
-        let states-long = sym (ap (λ (m : Watched). length (m .slots .states)) (made .is)) ∙ states-fit in
-        let told-long = sym (ap (λ (m : Watched). length (m .slots .told)) (made .is)) ∙ told-fit in
-        let taken : length trace + 1 ≡ length (trace ++ (activity ∷ [])) = sym (length-append trace (activity ∷ [])) in
-        ap₂ (λ (w : Watcher) (l : Slots). record { watcher = w; slots = l })
-        (ap one-taken (same-watcher n numbers before trace m made)
-        ∙ ap (λ k. record { activities = n; constraints = length numbers / 3; taken = k }) taken)
-        (turned
-        ∙ ap (λ (m : Watched). each-of (turn-by (table (eqb (m .watcher .activities) 1)) numbers activity) (m .watcher .constraints) 0 (m .slots)) (made .is)
-        ∙ stepping n numbers (made .accepted) before trace activity (omega arith) (omega arith))
-
-    pub steps-taken : Steps numbers m activity (done-said answer) (record { watcher = one-taken (m .watcher); slots = l })
-    steps-taken =
-        record {
-          ends = rw e;
-          made =
-              λ n before trace made.
-              outcome-accepted (said ∙ made-reply n numbers before trace m made activity) (ap done-said e) (next-is n before trace made);
-        }
+  pub steps-taken :
+      {l : Slots} → answer ≡ DoneAnswer.Done → length (m .slots .states) ≡ 256 → length (m .slots .told) ≡ 256 →
+      l ≡ each-of (turn-by (table (eqb (m .watcher .activities) 1)) numbers activity) (m .watcher .constraints) 0 (m .slots) →
+      Steps numbers m activity (done-said answer) (record { watcher = one-taken (m .watcher); slots = l })
+  steps-taken {l = l} e states-fit told-fit turned =
+      record {
+        ends = rw e;
+        made =
+            λ n before trace made.
+            outcome-accepted (said ∙ made-reply n numbers before trace m made activity) (ap done-said e) (next-is n before trace made);
+      }
+    where
+      -- what is left where a start and steps made the memory
+      next-is :
+          (n : ℕ) (before : Slots) (trace : List ℕ) → Made n numbers before trace m →
+          record { watcher = one-taken (m .watcher); slots = l } ≡ watched-after n numbers before (trace ++ (activity ∷ []))
+      next-is n before trace made =
+          let many = not-many n numbers (made .accepted) in
+          let states-long = sym (ap (λ (m : Watched). length (m .slots .states)) (made .is)) ∙ states-fit in
+          let told-long = sym (ap (λ (m : Watched). length (m .slots .told)) (made .is)) ∙ told-fit in
+          let taken : length trace + 1 ≡ length (trace ++ (activity ∷ [])) = sym (length-append trace (activity ∷ [])) in
+          ap₂ (λ (w : Watcher) (l : Slots). record { watcher = w; slots = l })
+          (ap one-taken (same-watcher n numbers before trace m made)
+          ∙ ap (λ k. record { activities = n; constraints = length numbers / 3; taken = k }) taken)
+          (turned
+          ∙ ap (λ (m : Watched). each-of (turn-by (table (eqb (m .watcher .activities) 1)) numbers activity) (m .watcher .constraints) 0 (m .slots)) (made .is)
+          ∙ stepping n numbers (made .accepted) before trace activity (omega arith) (omega arith))

@@ -37,14 +37,14 @@ add-t16 : tie.Need-add-t16
 add-t16 c = let known = fits-so (c .before .before .before .before) in omega (arith, known .short)
 
 returns : tie.Need-returns
-returns c = steps-refused _ _ _ _ (c .before .before .step-answer .ensures) (c .enum-told .given .0 .0) (c .enum-told .given .1)
+returns c = steps-refused (c .before .before .step-answer .ensures) (c .enum-told .given .1)
 
 returns-2 : tie.Need-returns-2
 returns-2 c =
     let turned = c .before in
     let told = turned .before .before .before in
-    steps-taken _ _ _ _ (told .before .before .step-answer .ensures) (told .enum-told2 .given .1)
-    (turned .before .before .turns-arg .given .0 .1) (turned .before .turns-arg2 .given .0 .1) _ (turned .turns .ensures)
+    steps-taken (told .before .before .step-answer .ensures) (told .enum-told2 .given .1)
+    (turned .before .before .turns-arg .given .0 .1) (turned .before .turns-arg2 .given .0 .1) (turned .turns .ensures)
 
 pub step-spec : {M : Type 1} → statement M
 step-spec =
