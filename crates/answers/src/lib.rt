@@ -7,16 +7,19 @@ pub struct Refusal {
     pub detail: usize,
 }
 
+// Done, or refused: add, and a watcher's step.
 pub enum DoneAnswer {
     Done,
     Refused(Refusal),
 }
 
+// A count, or refused: read, whose count is of the traces added (document 01: runs).
 pub enum CountAnswer {
     Count(usize),
     Refused(Refusal),
 }
 
+// Refused, with a number and a detail.
 pub fn not_done(number: u8, detail: usize) -> DoneAnswer
     ensures { λ r. ⌜ r ≡ DoneAnswer.Refused (record { number = number; detail = detail }) ⌝ }
 {
