@@ -1,22 +1,24 @@
 // What calls answer that hand back no more than that they are done, or a number: an enum each, with the refusal that every call shares.
+#![tactic(auto)]
+
 ghost use Rattle.std.specs.Prelude.{◌≡◌};
 
 // A refusal's number in document 01, and its detail.
-#[derive(Drop)]
+#[derive(Clone, Copy)]
 pub struct Refusal {
     pub number: u8,
     pub detail: usize,
 }
 
 // Done, or refused: add, and a watcher's step.
-#[derive(Drop)]
+#[derive(Clone, Copy)]
 pub enum DoneAnswer {
     Done,
     Refused(Refusal),
 }
 
 // A count, or refused: read, whose count is of the traces added (document 01: runs).
-#[derive(Drop)]
+#[derive(Clone, Copy)]
 pub enum CountAnswer {
     Count(usize),
     Refused(Refusal),

@@ -74,7 +74,7 @@ unfolding agree
 by_cases zero f g h = equal_same f g h
 by_cases (suc n) f g h =
     λ p.
-    elim p [
+    elim p as (λ k. Equal n (f k) (g k)) [
       | true ↦ by_cases n (f true) (g true) (and_left (agree n (f true) (g true)) (agree n (f false) (g false)) h)
       | false ↦ by_cases n (f false) (g false) (and_right (agree n (f true) (g true)) (agree n (f false) (g false)) h)
     ]

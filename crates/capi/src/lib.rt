@@ -1,4 +1,6 @@
 // The calls for programs in C or Rust: numbers and slices only. include/budgieleaf.h says what each does.
+#![tactic(auto)]
+
 ghost use Rattle.std.specs.Prelude.{◌≡◌, [], ◌∷◌};
 ghost use Rattle.answers.specs.Answers.{refusal_said, done_said, count_said};
 ghost use Rattle.eventlog.specs.Store.{sound};

@@ -1,4 +1,6 @@
 // Logs in columns: lines, read.
+#![tactic(auto)]
+
 ghost use Rattle.std.specs.Prelude.{◌<◌, ◌≡◌, true, ◌∷◌, [], length, take, drop};
 ghost use Rattle.base.specs.Checks.{gives, reply};
 ghost use Rattle.answers.specs.Answers.{count_said};
@@ -17,7 +19,7 @@ pub const MALFORMED: u8 = 4;
 
 pub const NUMBER_FALLS: u8 = 5;
 
-#[derive(Drop)]
+#[derive(Clone, Copy)]
 pub struct ReadResult {
     pub store: Store,
     pub answer: CountAnswer,
@@ -27,7 +29,7 @@ pub struct ReadResult {
 pub const LINE: usize = 10;
 
 // What a line of a log holds: a trace's number and one of its events.
-#[derive(Drop)]
+#[derive(Clone, Copy)]
 enum Entry {
     Malformed,
     Event { number: u32, activity: u32 },
@@ -65,7 +67,7 @@ fn line_at(log: &[u8], at: usize) -> Entry
 
 // How far a log is read: the number of the last line, how many events its trace can still take (none before the first line),
 // how many traces the lines spell, and the end of the last of them.
-#[derive(Drop)]
+#[derive(Clone, Copy)]
 struct Progress {
     number: u32,
     left: u32,
@@ -73,7 +75,7 @@ struct Progress {
     last: u32,
 }
 
-#[derive(Drop)]
+#[derive(Clone, Copy)]
 enum Step {
     Next(Progress),
     Fault(u8),

@@ -5,7 +5,7 @@ ghost use Rattle.declare.specs.Constraints.{constraints};
 ghost use Rattle.declare.specs.Walk.{first_of, partner as partner_of, next as next_of};
 
 // A constraint (document 01: a rule): a template's number and its activities.
-#[derive(Drop)]
+#[derive(Clone, Copy)]
 pub struct Constraint {
     pub template: u8,
     pub a: u8,

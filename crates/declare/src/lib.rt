@@ -1,5 +1,7 @@
 // DECLARE templates on one trace (document 01: a run): their automata, and the replayer. The constraints of all templates, and the walk over
 // them, are in a module that is public so that other crates can cite the laws below it.
+#![tactic(auto)]
+
 pub mod constraints;
 mod tables;
 
@@ -9,7 +11,7 @@ ghost use Rattle.declare.specs.Automata.{next_states, state_verdicts, packed as 
 pub use constraints::{Constraint, constraint_count, first_constraint, next_constraint};
 
 // What a trace is for a constraint (document 01: a run for a rule): fulfilled, not activated (01: idle), or violated (01: broken).
-#[derive(Drop)]
+#[derive(Clone, Copy)]
 pub enum Verdict {
     Fulfilled,
     NotActivated,
@@ -18,7 +20,7 @@ pub enum Verdict {
 
 // A template's automaton: for each letter (a, b, any other) the next states of its eight states, and their verdicts, a byte each.
 // A next state is written as eight times its number, which is how far a number is to be shifted for it.
-#[derive(Drop)]
+#[derive(Clone, Copy)]
 pub struct Automaton {
     pub a: u64,
     pub b: u64,
@@ -28,7 +30,7 @@ pub struct Automaton {
 
 // A number whose lowest six bits are eight times the number of a state. What stands above them is left there: the next shift looks at six
 // bits only, and to clear the others would be one more operation to wait for.
-#[derive(Drop)]
+#[derive(Clone, Copy)]
 pub struct Replayer {
     state: u64,
 }

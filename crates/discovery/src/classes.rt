@@ -11,7 +11,7 @@ use declare::Constraint;
 use eventlog::Store;
 
 // The classes of pruning: by the traces with a, by all of them, by those with a or b, by those with both.
-#[derive(Drop)]
+#[derive(Clone, Copy)]
 pub enum Class {
     WithA,
     All,

@@ -1,4 +1,6 @@
 // Discovery (document 01: finding) over a store of traces: pruning by class, replay of what is kept, and the list.
+#![tactic(auto)]
+
 mod classes;
 mod list;
 mod replay;
@@ -25,34 +27,34 @@ pub const LIST_TOO_SHORT: u8 = 10;
 pub const NO_TRACE: u8 = 11;
 
 // What a find is asked by: the threshold (in the field: support), in thousandths.
-#[derive(Drop)]
+#[derive(Clone, Copy)]
 pub struct Settings {
     pub threshold: u32,
 }
 
 // What a count is measured by: the settings, and R, which is counted once a find.
-#[derive(Drop)]
+#[derive(Clone, Copy)]
 pub struct Measure {
     pub settings: Settings,
     pub traces: u32,
 }
 
 // Whether the list fits the slice; if not, how many constraints are to be listed.
-#[derive(Drop)]
+#[derive(Clone, Copy)]
 pub enum Fit {
     Fits,
     Short(usize),
 }
 
 // The constraints listed, those replayed, and R: how many kept traces are of length 1 or more.
-#[derive(Drop)]
+#[derive(Clone, Copy)]
 pub struct Found {
     pub constraints: u32,
     pub replayed: u32,
     pub traces: u32,
 }
 
-#[derive(Drop)]
+#[derive(Clone, Copy)]
 pub enum FindAnswer {
     Listed(Found),
     Refused(Refusal),

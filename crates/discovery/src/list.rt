@@ -12,7 +12,7 @@ use declare::{Automaton, Constraint};
 use eventlog::Store;
 
 // How many constraints so far are listed, and how many were replayed.
-#[derive(Drop)]
+#[derive(Clone, Copy)]
 pub struct Tally {
     pub listed: u32,
     pub replayed: u32,

@@ -11,7 +11,7 @@ use declare::{Automaton, Constraint, Verdict};
 use eventlog::Store;
 
 // A constraint's fulfilled traces, and how many constraints have been replayed, this one counted.
-#[derive(Drop)]
+#[derive(Clone, Copy)]
 pub struct Replayed {
     pub fulfilled: u32,
     pub replayed: u32,

@@ -1,4 +1,6 @@
 // The store of traces (document 01: of runs): its record, whether it is sound, its room, open and add.
+#![tactic(auto)]
+
 ghost use Rattle.std.specs.Prelude.{◌≡◌, [], ◌+◌, ◌≤◌, length};
 ghost use Rattle.std.proofs.lemmas.List.Edits.{sets};
 ghost use Rattle.base.specs.Checks.{gives, reply};
@@ -9,21 +11,21 @@ ghost use Rattle.eventlog.specs.Store.{lent, last_from, last_kept, rising, sound
 use answers::{DoneAnswer, Refusal};
 
 // The record: how many activities (document 01: steps, numbers below N) are declared, and how many traces are kept.
-#[derive(Drop)]
+#[derive(Clone, Copy)]
 pub struct Store {
     pub activities: u32,
     pub traces: u32,
 }
 
 // The lengths of the two lent buffers: the events (01: kept steps) lie in the first, the ends of the traces in the second.
-#[derive(Drop)]
+#[derive(Clone, Copy)]
 pub struct Space {
     pub events: usize,
     pub ends: usize,
 }
 
 // What is left in a store: the activities declared, the traces kept and their last end, and the space.
-#[derive(Drop)]
+#[derive(Clone, Copy)]
 pub struct Room {
     pub activities: u32,
     pub traces: u32,
@@ -31,13 +33,13 @@ pub struct Room {
     pub space: Space,
 }
 
-#[derive(Drop)]
+#[derive(Clone, Copy)]
 pub enum OpenAnswer {
     Opened(Store),
     Refused(Refusal),
 }
 
-#[derive(Drop)]
+#[derive(Clone, Copy)]
 pub struct AddResult {
     pub store: Store,
     pub answer: DoneAnswer,

@@ -1,4 +1,6 @@
 // Fields of columns: reading them, and putting numbers into them.
+#![tactic(auto)]
+
 ghost use Rattle.std.specs.Prelude.{◌+◌, ◌*◌, ◌≤◌, ◌≡◌, length, replicate};
 ghost use Rattle.fields.specs.Field.{blank, is_digit, field_of, spell};
 ghost use Rattle.fields.specs.Scan.{scan_byte, finish, so_far};
@@ -9,14 +11,14 @@ pub const BLANK: u8 = 32;
 pub const LINE_FEED: u8 = 10;
 
 // What a field of columns holds.
-#[derive(Drop)]
+#[derive(Clone, Copy)]
 pub enum Field {
     Number(u32),
     Malformed,
 }
 
 // How far a field is read: blanks alone so far, or digits with the value so far, or no field.
-#[derive(Drop)]
+#[derive(Clone, Copy)]
 enum Scan {
     Blanks,
     Digits(u32),

@@ -1,4 +1,6 @@
 // Reads settings and a log from standard input, and writes what `report` makes of them.
+#![tactic(auto)]
+
 use libc::{STDIN_FILENO, STDOUT_FILENO};
 
 fn main() {

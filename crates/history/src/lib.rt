@@ -1,5 +1,7 @@
 // The four calls, handed on as they are. Each promises `Called`, a step of a history, so that what is proved of histories is about this
 // code.
+#![tactic(auto)]
+
 ghost use Rattle.answers.specs.Answers.{done_said, count_said};
 ghost use Rattle.eventlog.specs.Store.{Memory, lent, with_store};
 ghost use Rattle.eventlog.specs.Calls.{open_said, opened};

@@ -1,4 +1,6 @@
 // All that findrules does between its input and its output.
+#![tactic(auto)]
+
 ghost use Rattle.std.specs.Prelude.{◌≡◌, true, [], ◌∷◌, ◌+◌, ◌*◌, ◌≤◌, length};
 ghost use Rattle.eventlog.specs.Store.{declarable};
 ghost use Rattle.fields.specs.Field.{line_feed, spell};
@@ -70,7 +72,7 @@ fn put_line_feed(out: &mut [u8], at: usize) -> usize
 }
 
 // A constraint of the list, with its count.
-#[derive(Drop)]
+#[derive(Clone, Copy)]
 struct Counted {
     template: u16,
     a: u16,
@@ -149,7 +151,7 @@ fn put_refusal(out: &mut [u8], number: u8, detail: usize) -> usize
 }
 
 // What the settings line sets.
-#[derive(Drop)]
+#[derive(Clone, Copy)]
 enum SettingsLine {
     Set { activities: u32, settings: Settings },
     Malformed,

@@ -1,5 +1,7 @@
 // Watching a trace while it grows (document 02, request 3): for each of at most 256 constraints whether it holds so far, and whether that can
 // still change.
+#![tactic(auto)]
+
 mod table;
 
 ghost use Rattle.std.specs.Prelude.{◌≡◌, [], ◌∷◌, ◌+◌, ◌-◌, ◌*◌, ◌/◌, ◌<◌, eqb, length, get_or};
@@ -15,20 +17,20 @@ ghost use Rattle.watcher.specs.Loops.{each_of, HasPlace, first_turn as turned_fi
 use answers::{DoneAnswer, Refusal};
 
 // The record: how many activities are declared, constraints watched, and activities taken so far.
-#[derive(Drop)]
+#[derive(Clone, Copy)]
 pub struct Watcher {
     pub activities: u32,
     pub constraints: u32,
     pub taken: u32,
 }
 
-#[derive(Drop)]
+#[derive(Clone, Copy)]
 pub enum StartAnswer {
     Started(Watcher),
     Refused(Refusal),
 }
 
-#[derive(Drop)]
+#[derive(Clone, Copy)]
 pub struct StepResult {
     pub watcher: Watcher,
     pub answer: DoneAnswer,
