@@ -1,7 +1,6 @@
 -- The calls over numbers and slices alone: what each returns and leaves, by the contracts of the calls.
 -- Assumes nothing.
 use Rattle.std.specs.Prelude.{ℕ, ◌≡◌, List, [], ◌∷◌, ◌++◌, get_or, take}
-use Rattle.std.specs.Borrow.{Bor}
 use Rattle.base.specs.Checks.{Reply, gives, refused}
 use Rattle.eventlog.specs.declared.Store.{Store}
 use Rattle.eventlog.specs.Store.{Memory, memory}
@@ -15,16 +14,16 @@ abbrev pub store_of : List ℕ → Store
 store_of numbers = record { activities = get_or numbers 0 0; traces = get_or numbers 1 0 }
 
 -- the memory of what stands behind three references, that of the record first
-abbrev pub lent_numbers : Bor (List ℕ) → Bor (List ℕ) → Bor (List ℕ) → Memory
-lent_numbers store events ends = memory (store_of store.now) events.now ends.now
+abbrev pub lent_numbers : List ℕ → List ℕ → List ℕ → Memory
+lent_numbers store events ends = memory (store_of store) events ends
 
 -- how many activities are declared, constraints watched, and activities taken
 abbrev pub watcher_of : List ℕ → Watcher
 watcher_of numbers = record { activities = get_or numbers 0 0; constraints = get_or numbers 1 0; taken = get_or numbers 2 0 }
 
 -- likewise
-abbrev pub lent_watched : Bor (List ℕ) → Bor (List ℕ) → Bor (List ℕ) → Watched
-lent_watched watcher states told = watched (watcher_of watcher.now) states told
+abbrev pub lent_watched : List ℕ → List ℕ → List ℕ → Watched
+lent_watched watcher states told = watched (watcher_of watcher) states told
 
 -- ## Answers in numbers
 

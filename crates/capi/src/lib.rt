@@ -87,7 +87,7 @@ pub extern "C" fn budgieleaf_open(n: u32, store: &mut [u32; 2]) -> u32
 
 #[unsafe(no_mangle)]
 pub extern "C" fn budgieleaf_is_sound(store: &[u32; 2], events: &[u8], ends: &[u32]) -> bool
-    ensures { result ≡ sound (lent_numbers store.entry events.entry ends.entry) }
+    ensures { result ≡ sound (lent_numbers store.now events.now ends.now) }
 {
     let kept = Store {
         activities: store[0],
@@ -104,8 +104,8 @@ pub extern "C" fn budgieleaf_add(
     trace: &[u8],
     answer: &mut [u64; 3],
 ) -> u32
-    ensures { Replied (Adds (lent_numbers store.entry events.entry ends.entry) trace.now)
-        result (lent_numbers store.exit events.exit ends.exit) answer.new }
+    ensures { Replied (Adds (lent_numbers store.old events.old ends.old) trace.now)
+        result (lent_numbers store.new events.new ends.new) answer.new }
 {
     let kept = Store {
         activities: store[0],
@@ -126,8 +126,8 @@ pub extern "C" fn budgieleaf_read(
     log: &[u8],
     answer: &mut [u64; 3],
 ) -> u32
-    ensures { Replied (Reads (lent_numbers store.entry events.entry ends.entry) log.now)
-        result (lent_numbers store.exit events.exit ends.exit) answer.new }
+    ensures { Replied (Reads (lent_numbers store.old events.old ends.old) log.now)
+        result (lent_numbers store.new events.new ends.new) answer.new }
 {
     let kept = Store {
         activities: store[0],
@@ -149,7 +149,7 @@ pub extern "C" fn budgieleaf_find(
     list: &mut [u16],
     answer: &mut [u64; 3],
 ) -> u32
-    ensures { Replied (Finds (lent_numbers store.entry events.entry ends.entry) (record { threshold = threshold }) list.old)
+    ensures { Replied (Finds (lent_numbers store.now events.now ends.now) (record { threshold = threshold }) list.old)
         result list.new answer.new }
 {
     let kept = Store {
@@ -177,8 +177,8 @@ pub extern "C" fn budgieleaf_watch_start(
     states: &mut [u8; MOST_CONSTRAINTS],
     told: &mut [u8; MOST_CONSTRAINTS],
 ) -> u32
-    ensures { Returned (Starts n constraints.now (lent_watched watcher.entry states.entry told.entry))
-        result (lent_watched watcher.exit states.exit told.exit) }
+    ensures { Returned (Starts n constraints.now (lent_watched watcher.old states.old told.old))
+        result (lent_watched watcher.new states.new told.new) }
 {
     match watcher::start(n, constraints, states, told) {
         StartAnswer::Started(new) => {
@@ -197,8 +197,8 @@ pub extern "C" fn budgieleaf_watch_step(
     told: &mut [u8; MOST_CONSTRAINTS],
     activity: u32,
 ) -> u32
-    ensures { Returned (Steps constraints.now (lent_watched watcher.entry states.entry told.entry) activity)
-        result (lent_watched watcher.exit states.exit told.exit) }
+    ensures { Returned (Steps constraints.now (lent_watched watcher.old states.old told.old) activity)
+        result (lent_watched watcher.new states.new told.new) }
 {
     let kept = Watcher {
         activities: watcher[0],

@@ -211,9 +211,9 @@ fn write_line(
     events: &mut [u8],
     ends: &mut [u32],
 ) -> Progress
-    requires { Writable (lent store events ends) p entry }
+    requires { Writable (lent store events.old ends.old) p entry }
     ensures value { result ≡ moved p entry }
-    ensures ends_value { lent store events.exit ends.exit ≡ line_written p entry (lent store events.entry ends.entry) }
+    ensures ends_value { lent store events.new ends.new ≡ line_written p entry (lent store events.old ends.old) }
 {
     match entry {
         Entry::Malformed => p,
@@ -230,10 +230,10 @@ fn write_line(
 
 // The events and ends of a log that the first pass has accepted, written.
 fn write_lines(store: Store, events: &mut [u8], ends: &mut [u32], log: &[u8])
-    requires ends_value { sound (lent store events ends) ≡ true }
-    requires accepted { IsAccepted (survey_of (room_in (lent store events ends)) (at_start (room_in (lent store events ends))) 1 (lines log.now)) }
-    ensures { lent store events.exit ends.exit ≡
-        lines_written (at_start (room_in (lent store events.entry ends.entry))) (lent store events.entry ends.entry) (lines log.now) }
+    requires ends_value { sound (lent store events.old ends.old) ≡ true }
+    requires accepted { IsAccepted (survey_of (room_in (lent store events.old ends.old)) (at_start (room_in (lent store events.old ends.old))) 1 (lines log.now)) }
+    ensures { lent store events.new ends.new ≡
+        lines_written (at_start (room_in (lent store events.old ends.old))) (lent store events.old ends.old) (lines log.now) }
 {
     let mut p = start(eventlog::room_of(store, events, ends));
     let mut at: usize = 0;
@@ -245,7 +245,7 @@ fn write_lines(store: Store, events: &mut [u8], ends: &mut [u32], log: &[u8])
 
 // The answer of read, before anything is written.
 fn answer(store: Store, events: &[u8], ends: &[u32], log: &[u8]) -> CountAnswer
-    ensures { count_said result ≡ reply (checks_of_read (lent store events.entry ends.entry) log.now) (length (spelled log.now) ∷ []) }
+    ensures { count_said result ≡ reply (checks_of_read (lent store events.now ends.now) log.now) (length (spelled log.now) ∷ []) }
 {
     if !eventlog::is_sound(store, events, ends) {
         return CountAnswer::Refused(Refusal {
@@ -258,8 +258,8 @@ fn answer(store: Store, events: &[u8], ends: &[u32], log: &[u8]) -> CountAnswer
 
 // The log's traces, written behind those kept, where the answer was that so many are added.
 fn append(store: Store, events: &mut [u8], ends: &mut [u32], log: &[u8], added: usize) -> Store
-    requires { gives (added ∷ []) ≡ reply (checks_of_read (lent store events ends) log.now) (length (spelled log.now) ∷ []) }
-    ensures { lent result events.exit ends.exit ≡ with_traces (lent store events.entry ends.entry) (spelled log.now) }
+    requires { gives (added ∷ []) ≡ reply (checks_of_read (lent store events.old ends.old) log.now) (length (spelled log.now) ∷ []) }
+    ensures { lent result events.new ends.new ≡ with_traces (lent store events.old ends.old) (spelled log.now) }
 {
     write_lines(store, events, ends, log);
     Store {
@@ -270,7 +270,7 @@ fn append(store: Store, events: &mut [u8], ends: &mut [u32], log: &[u8], added: 
 
 // The traces that a log in columns spells, added behind those kept; or the refusal of the first line with a fault, and nothing written.
 pub fn read(store: Store, events: &mut [u8], ends: &mut [u32], log: &[u8]) -> ReadResult
-    ensures { Reads (lent store events.entry ends.entry) log.now (count_said result.answer) (lent result.store events.exit ends.exit) }
+    ensures { Reads (lent store events.old ends.old) log.now (count_said result.answer) (lent result.store events.new ends.new) }
 {
     let answer = answer(store, events, ends, log);
     match answer {

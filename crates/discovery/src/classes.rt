@@ -70,9 +70,9 @@ fn counts_for(class: Class, a: u8, b: u8, trace: &[u8]) -> bool
 
 // How many kept traces of length 1 or more count for the constraint's class.
 fn support(store: Store, events: &[u8], ends: &[u32], class: Class, c: Constraint) -> u32
-    requires ends_value { sound (lent store events ends) ≡ true }
+    requires ends_value { sound (lent store events.now ends.now) ≡ true }
     requires class_value { class ≡ class_of c.template }
-    ensures { result ≡ support_of (filter non_empty (kept (lent store events.entry ends.entry))) c }
+    ensures { result ≡ support_of (filter non_empty (kept (lent store events.now ends.now))) c }
 {
     let kept = store.traces as usize;
     let mut count: u32 = 0;
@@ -92,8 +92,8 @@ fn support(store: Store, events: &[u8], ends: &[u32], class: Class, c: Constrain
 
 // R: how many kept traces are of length 1 or more.
 pub(crate) fn trace_count(store: Store, events: &[u8], ends: &[u32]) -> u32
-    requires { sound (lent store events ends) ≡ true }
-    ensures { result ≡ count_of non_empty (kept (lent store events.entry ends.entry)) }
+    requires { sound (lent store events.now ends.now) ≡ true }
+    ensures { result ≡ count_of non_empty (kept (lent store events.now ends.now)) }
 {
     let kept = store.traces as usize;
     let mut count: u32 = 0;
@@ -139,9 +139,9 @@ pub(crate) fn survives(
     class: Class,
     c: Constraint,
 ) -> bool
-    requires measured { Measured (lent store events ends) measure }
+    requires measured { Measured (lent store events.now ends.now) measure }
     requires class_value { class ≡ class_of c.template }
-    ensures { result ≡ survives_test (asked (lent store events.entry ends.entry) measure.settings) c }
+    ensures { result ≡ survives_test (asked (lent store events.now ends.now) measure.settings) c }
 {
     if always(class) {
         return true;

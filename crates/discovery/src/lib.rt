@@ -62,8 +62,8 @@ pub enum FindAnswer {
 
 // Looks whether the list fits, and leaves the slice as it was. Where there is room for all constraints, nothing is replayed for it.
 fn look(store: Store, events: &[u8], ends: &[u32], measure: Measure, list: &mut [u16]) -> Fit
-    requires { Measured (lent store events ends) measure }
-    ensures value { result ≡ fit_of (length (listed (asked (lent store events.entry ends.entry) measure.settings))) list.old }
+    requires { Measured (lent store events.now ends.now) measure }
+    ensures value { result ≡ fit_of (length (listed (asked (lent store events.now ends.now) measure.settings))) list.old }
     ensures list_unchanged { list.new ≡ list.old }
 {
     let all = declare::constraint_count(store.activities as u8);
@@ -99,7 +99,7 @@ pub fn find(
     settings: Settings,
     list: &mut [u16],
 ) -> FindAnswer
-    ensures { Finds (lent store events.entry ends.entry) settings list.old (find_said result) list.new }
+    ensures { Finds (lent store events.now ends.now) settings list.old (find_said result) list.new }
 {
     if !eventlog::is_sound(store, events, ends) {
         return refused(eventlog::NOT_SOUND, 0);

@@ -61,10 +61,10 @@ fn consider(
     automaton: Automaton,
     c: Constraint,
 ) -> Tally
-    requires measured { Measured (lent store events ends) measure }
-    requires kept { Kept (asked (lent store events ends) measure.settings) automaton c }
+    requires measured { Measured (lent store events.now ends.now) measure }
+    requires kept { Kept (asked (lent store events.now ends.now) measure.settings) automaton c }
     requires tally_fits { TallyFits store.activities tally }
-    ensures { Passes (asked (lent store events.entry ends.entry) measure.settings) (c ∷ []) tally list.old result list.new }
+    ensures { Passes (asked (lent store events.now ends.now) measure.settings) (c ∷ []) tally list.old result list.new }
 {
     let settings = measure.settings;
     let replay = replay::replay(store, events, ends, settings, automaton, c, tally.replayed);
@@ -92,8 +92,8 @@ pub(crate) fn pass(
     measure: Measure,
     list: &mut [u16],
 ) -> Tally
-    requires { Measured (lent store events ends) measure }
-    ensures { Passes (asked (lent store events.entry ends.entry) measure.settings) (constraints store.activities) none_yet list.old result list.new }
+    requires { Measured (lent store events.now ends.now) measure }
+    ensures { Passes (asked (lent store events.now ends.now) measure.settings) (constraints store.activities) none_yet list.old result list.new }
 {
     let n = store.activities as u8;
     let all = declare::constraint_count(n);

@@ -40,9 +40,9 @@ fn fulfilled_by(
     c: Constraint,
 ) -> u32
     requires moves_for { MovesFor c moves.now verdicts }
-    requires ends_value { sound (lent store events ends) ≡ true }
+    requires ends_value { sound (lent store events.now ends.now) ≡ true }
     requires over { Over store.activities c }
-    ensures { result ≡ fulfilments (filter non_empty (kept (lent store events.entry ends.entry))) c }
+    ensures { result ≡ fulfilments (filter non_empty (kept (lent store events.now ends.now))) c }
 {
     let traces = store.traces as usize;
     let mut fulfilled: u32 = 0;
@@ -71,10 +71,10 @@ pub(crate) fn replay(
     c: Constraint,
     replayed: u32,
 ) -> Replayed
-    requires ends_value { sound (lent store events ends) ≡ true }
-    requires kept { Kept (asked (lent store events ends) settings) automaton c }
+    requires ends_value { sound (lent store events.now ends.now) ≡ true }
+    requires kept { Kept (asked (lent store events.now ends.now) settings) automaton c }
     requires at_most_all { AtMostAll store.activities replayed }
-    ensures { Replays (asked (lent store events.entry ends.entry) settings) c replayed result }
+    ensures { Replays (asked (lent store events.now ends.now) settings) c replayed result }
 {
     let moves = declare::moves(automaton, c.a, c.b);
     let fulfilled = fulfilled_by(&moves, automaton.verdicts, store, events, ends, c);

@@ -2,7 +2,6 @@
 -- Assumes nothing.
 use Rattle.std.specs.Prelude.{ℕ, ◌+◌, Bool, true, ◌&&◌, ◌||◌, List, [], ◌∷◌, eqb, leb, ltb, length, take}
 use Rattle.std.proofs.Math.Seq.{slice}
-use Rattle.std.specs.Borrow.{Bor}
 use Rattle.base.specs.Logic.{in_range}
 use Rattle.base.specs.Lists.{all}
 use Rattle.eventlog.specs.declared.Space.{Space}
@@ -28,8 +27,8 @@ abbrev pub memory : Store → List ℕ → List ℕ → Memory
 memory store events ends = record { store = store; events = events; ends = ends }
 
 -- the memory of a record and of what stands behind two references: contracts speak of it so
-abbrev pub lent : Store → Bor (List ℕ) → Bor (List ℕ) → Memory
-lent store events ends = memory store events.now ends.now
+abbrev pub lent : Store → List ℕ → List ℕ → Memory
+lent store events ends = memory store events ends
 
 -- another record beside the same buffers
 abbrev pub with_store : Store → Memory → Memory

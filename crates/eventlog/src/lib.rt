@@ -142,7 +142,7 @@ fn declared_front(n: u32, events: &[u8]) -> usize
 
 // Whether the record and the buffers are sound: one pass over the kept ends, and one over the kept events.
 pub fn is_sound(store: Store, events: &[u8], ends: &[u32]) -> bool
-    ensures { result ≡ sound (lent store events.entry ends.entry) }
+    ensures { result ≡ sound (lent store events.now ends.now) }
 {
     let activities = store.activities;
     let traces = store.traces;
@@ -165,7 +165,7 @@ pub fn is_sound(store: Store, events: &[u8], ends: &[u32]) -> bool
 
 // What is left in a store. Any record and slices may come in.
 pub fn room_of(store: Store, events: &[u8], ends: &[u32]) -> Room
-    ensures { result ≡ room (lent store events.entry ends.entry) }
+    ensures { result ≡ room (lent store events.now ends.now) }
 {
     Room {
         activities: store.activities,
@@ -187,7 +187,7 @@ pub fn is_full(room: Room) -> bool
 
 // What add answers. Nothing is written before this is known.
 fn add_answer(store: Store, events: &[u8], ends: &[u32], trace: &[u8]) -> DoneAnswer
-    ensures { done_said result ≡ reply (checks_of_add (lent store events.entry ends.entry) trace.now) [] }
+    ensures { done_said result ≡ reply (checks_of_add (lent store events.now ends.now) trace.now) [] }
 {
     if !is_sound(store, events, ends) {
         return answers::not_done(NOT_SOUND, 0);
@@ -222,8 +222,8 @@ fn copy_in(events: &mut [u8], at: usize, trace: &[u8])
 
 // Appends the events and the end of a trace that add accepts.
 fn append(store: Store, events: &mut [u8], ends: &mut [u32], trace: &[u8]) -> Store
-    requires { gives [] ≡ reply (checks_of_add (lent store events ends) trace.now) [] }
-    ensures { lent result events.exit ends.exit ≡ with_trace (lent store events.entry ends.entry) trace.now }
+    requires { gives [] ≡ reply (checks_of_add (lent store events.old ends.old) trace.now) [] }
+    ensures { lent result events.new ends.new ≡ with_trace (lent store events.old ends.old) trace.now }
 {
     let last = last_end(store, ends) as usize;
     copy_in(events, last, trace);
@@ -238,7 +238,7 @@ fn append(store: Store, events: &mut [u8], ends: &mut [u32], trace: &[u8]) -> St
 
 // Appends a trace. A refused call changes no byte.
 pub fn add(store: Store, events: &mut [u8], ends: &mut [u32], trace: &[u8]) -> AddResult
-    ensures { Adds (lent store events.entry ends.entry) trace.now (done_said result.answer) (lent result.store events.exit ends.exit) }
+    ensures { Adds (lent store events.old ends.old) trace.now (done_said result.answer) (lent result.store events.new ends.new) }
 {
     let answer = add_answer(store, events, ends, trace);
     match answer {

@@ -6,7 +6,7 @@ ghost use Rattle.answers.specs.Answers.{done_said, count_said};
 ghost use Rattle.eventlog.specs.Store.{Memory, lent, with_store};
 ghost use Rattle.eventlog.specs.Calls.{open_said, opened};
 ghost use Rattle.discovery.specs.Calls.{find_said};
-ghost use Rattle.history.specs.Ledger.{only, open_for, add as add_of, read as ReadOf, find as find_of};
+ghost use Rattle.history.specs.Ledger.{only, open_for, add as add_of, read as read_of, find as find_of};
 ghost use Rattle.history.specs.Histories.{Called};
 
 use columns::ReadResult;
@@ -20,15 +20,15 @@ pub fn open(n: u32) -> OpenAnswer
 }
 
 pub fn add(store: Store, events: &mut [u8], ends: &mut [u32], trace: &[u8]) -> AddResult
-    ensures { Called (lent store events.entry ends.entry) (add_of trace.now) (only (done_said result.answer))
-        (lent result.store events.exit ends.exit) }
+    ensures { Called (lent store events.old ends.old) (add_of trace.now) (only (done_said result.answer))
+        (lent result.store events.new ends.new) }
 {
     eventlog::add(store, events, ends, trace)
 }
 
 pub fn read(store: Store, events: &mut [u8], ends: &mut [u32], log: &[u8]) -> ReadResult
-    ensures { Called (lent store events.entry ends.entry) (ReadOf log.now) (only (count_said result.answer))
-        (lent result.store events.exit ends.exit) }
+    ensures { Called (lent store events.old ends.old) (read_of log.now) (only (count_said result.answer))
+        (lent result.store events.new ends.new) }
 {
     columns::read(store, events, ends, log)
 }
@@ -40,8 +40,8 @@ pub fn find(
     settings: Settings,
     list: &mut [u16],
 ) -> FindAnswer
-    ensures { Called (lent store events.entry ends.entry) (find_of settings list.old)
-        (record { said = find_said result; list = list.new }) (lent store events.entry ends.entry) }
+    ensures { Called (lent store events.now ends.now) (find_of settings list.old)
+        (record { said = find_said result; list = list.new }) (lent store events.now ends.now) }
 {
     discovery::find(store, events, ends, settings, list)
 }

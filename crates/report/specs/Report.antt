@@ -2,7 +2,6 @@
 -- Assumes nothing.
 use Rattle.std.specs.Prelude.{ℕ, ◌*◌, ◌≡◌, Bool, not, ◌&&◌, List, [], ◌∷◌, ◌++◌, eqb, leb, ltb, length, get_or, drop, replicate}
 use Rattle.std.proofs.Math.Seq.{slice}
-use Rattle.std.specs.Borrow.{Bor}
 use Rattle.base.specs.Checks.{Check, ◌refuses◌with◌, Reply, gives, refused, reply, when_passed}
 use Rattle.eventlog.specs.declared.Room.{Room}
 use Rattle.eventlog.specs.declared.Space.{Space}
@@ -95,9 +94,9 @@ pub record Arrays : Type 0 where
   pub ends : List ℕ
   pub list : List ℕ
 
--- what stands behind three references: contracts speak of it so
-abbrev pub lent_arrays : Bor (List ℕ) → Bor (List ℕ) → Bor (List ℕ) → Arrays
-lent_arrays events ends list = record { events = events.now; ends = ends.now; list = list.now }
+-- the three slices as they stand behind their references: contracts speak of it so
+abbrev pub lent_arrays : List ℕ → List ℕ → List ℕ → Arrays
+lent_arrays events ends list = record { events = events; ends = ends; list = list }
 
 -- the lent buffers as an empty store
 abbrev pub empty_store : ℕ → Arrays → Memory

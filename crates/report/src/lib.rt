@@ -8,7 +8,7 @@ ghost use Rattle.columns.specs.Log.{log_checks};
 ghost use Rattle.discovery.specs.Question.{numbers};
 ghost use Rattle.report.specs.Print.{activity_width, refusal_line_size, first_line_size, constraint_line_size, refusal_line, first_line, second_field};
 ghost use Rattle.report.specs.Report.{room_lent, lent_arrays, Reports};
-ghost use Rattle.report.specs.Puts.{Puts, counted_at as CountedOf, printed_line, lines_of};
+ghost use Rattle.report.specs.Puts.{Puts, counted_at as counted_of, printed_line, lines_of};
 ghost use Rattle.report.specs.Stages.{settings_of, Decides, Decided, number_listed, answer_text};
 
 use answers::CountAnswer;
@@ -83,7 +83,7 @@ struct Counted {
 // The one that stands in the list after k others.
 fn counted_at(list: &[u16], k: usize) -> Counted
     requires { numbers * k + numbers ≤ length list.now }
-    ensures { result ≡ CountedOf k list.now }
+    ensures { result ≡ counted_of k list.now }
 {
     let first = discovery::NUMBERS * k;
     Counted {
@@ -187,7 +187,7 @@ fn read_and_find(
     requires { (declarable store.activities ≡ true) × (store.traces ≡ 0) }
     ensures { Decides (log_checks (room_lent store.activities) log.now)
         store.activities settings log.now
-        (lent_arrays events.entry ends.entry list.entry) result (lent_arrays events.exit ends.exit list.exit) }
+        (lent_arrays events.old ends.old list.old) result (lent_arrays events.new ends.new list.new) }
 {
     let result = columns::read(store, events, ends, log);
     let after = result.store;
@@ -205,8 +205,8 @@ fn decide(
     ends: &mut [u32; LENT_ENDS],
     list: &mut [u16; LIST],
 ) -> FindAnswer
-    ensures { Decided input.now (lent_arrays events.entry ends.entry list.entry)
-        result (lent_arrays events.exit ends.exit list.exit) }
+    ensures { Decided input.now (lent_arrays events.old ends.old list.old)
+        result (lent_arrays events.new ends.new list.new) }
 {
     if MOST_INPUT < input.len() {
         return discovery::refused(TOO_MUCH_INPUT, 0);
@@ -258,8 +258,8 @@ pub fn report(
     list: &mut [u16; LIST],
     out: &mut [u8; OUT],
 ) -> usize
-    ensures { Reports input.now (lent_arrays events.entry ends.entry list.entry) out.old
-        result (lent_arrays events.exit ends.exit list.exit) out.new }
+    ensures { Reports input.now (lent_arrays events.old ends.old list.old) out.old
+        result (lent_arrays events.new ends.new list.new) out.new }
 {
     let answer = decide(input, events, ends, list);
     print(answer, list, out)

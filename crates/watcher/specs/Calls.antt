@@ -1,7 +1,6 @@
 -- Start and step: what each says and leaves. The contracts cite these.
 -- Assumes nothing.
 use Rattle.std.specs.Prelude.{ℕ, ◌+◌, ◌*◌, ◌/◌, ◌%◌, ◌≤◌, ◌≡◌, Bool, true, not, ◌&&◌, ◌||◌, List, [], ◌∷◌, ◌++◌, map, eqb, leb, ltb, length, get_or, drop}
-use Rattle.std.specs.Borrow.{Bor}
 use Rattle.base.specs.Lists.{all, range}
 use Rattle.base.specs.Checks.{Check, ◌refuses◌with◌, Reply, gives, refused, reply, when_passed, Outcome}
 use Rattle.base.specs.Logic.{in_range}
@@ -40,16 +39,16 @@ pub record Slots : Type 0 where
   pub states : List ℕ
   pub told : List ℕ
 
--- what stands behind two references: contracts speak of it so
-abbrev pub lent_slots : Bor (List ℕ) → Bor (List ℕ) → Slots
-lent_slots states told = record { states = states.now; told = told.now }
+-- the two slices as they stand behind their references: contracts speak of it so
+abbrev pub lent_slots : List ℕ → List ℕ → Slots
+lent_slots states told = record { states = states; told = told }
 
 -- The record beside what is lent.
 pub record Watched : Type 0 where
   pub watcher : Watcher
   pub slots : Slots
 
-abbrev pub watched : Watcher → Bor (List ℕ) → Bor (List ℕ) → Watched
+abbrev pub watched : Watcher → List ℕ → List ℕ → Watched
 watched watcher states told = record { watcher = watcher; slots = lent_slots states told }
 
 -- the record after a trace: how many activities are declared, constraints watched, and activities taken

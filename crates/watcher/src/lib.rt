@@ -92,8 +92,8 @@ fn turn(
     activity: u16,
 )
     requires { (3 * at + 2 < length numbers.now) × (at < length states.old) × (at < length told.old) }
-    ensures { lent_slots states.exit told.exit
-        ≡ turn_by table.now numbers.now activity at (lent_slots states.entry told.entry) }
+    ensures { lent_slots states.new told.new
+        ≡ turn_by table.now numbers.now activity at (lent_slots states.old told.old) }
 {
     let from = NUMBERS * at;
     let state = table[place_of(numbers[from + 1], numbers[from + 2], states[at], activity)];
@@ -103,10 +103,10 @@ fn turn(
 
 // Every constraint, one event on.
 fn turns(watcher: Watcher, numbers: &[u16], states: &mut [u8], told: &mut [u8], activity: u16)
-    requires { HasPlace watcher numbers.now (lent_slots states told) }
-    ensures { lent_slots states.exit told.exit
+    requires { HasPlace watcher numbers.now (lent_slots states.old told.old) }
+    ensures { lent_slots states.new told.new
         ≡ each_of (turn_by (table_of (eqb watcher.activities 1)) numbers.now activity) watcher.constraints 0
-        (lent_slots states.entry told.entry) }
+        (lent_slots states.old told.old) }
 {
     let table = table_for(watcher.activities);
     let count = watcher.constraints as usize;
@@ -120,8 +120,8 @@ fn turns(watcher: Watcher, numbers: &[u16], states: &mut [u8], told: &mut [u8], 
 // One constraint, before the first event.
 fn first_turn(table: &[u8; 1024], numbers: &[u16], at: usize, states: &mut [u8], told: &mut [u8])
     requires { (3 * at < length numbers.now) × (at < length states.old) × (at < length told.old) }
-    ensures { lent_slots states.exit told.exit
-        ≡ turned_first table.now numbers.now at (lent_slots states.entry told.entry) }
+    ensures { lent_slots states.new told.new
+        ≡ turned_first table.now numbers.now at (lent_slots states.old told.old) }
 {
     let state = (numbers[NUMBERS * at] % 32) as u8;
     states[at] = state;
@@ -130,10 +130,10 @@ fn first_turn(table: &[u8; 1024], numbers: &[u16], at: usize, states: &mut [u8],
 
 // Every constraint, before the first event.
 fn first_turns(watcher: Watcher, numbers: &[u16], states: &mut [u8], told: &mut [u8])
-    requires { HasPlace watcher numbers.now (lent_slots states told) }
-    ensures { lent_slots states.exit told.exit
+    requires { HasPlace watcher numbers.now (lent_slots states.old told.old) }
+    ensures { lent_slots states.new told.new
         ≡ each_of (turned_first (table_of (eqb watcher.activities 1)) numbers.now) watcher.constraints 0
-        (lent_slots states.entry told.entry) }
+        (lent_slots states.old told.old) }
 {
     let table = table_for(watcher.activities);
     let constraints = watcher.constraints as usize;
@@ -230,8 +230,8 @@ pub fn start(
     states: &mut [u8; MOST_CONSTRAINTS],
     told: &mut [u8; MOST_CONSTRAINTS],
 ) -> StartAnswer
-    ensures { (there : Watcher) → Starts activities numbers.now (watched there states.entry told.entry)
-        (start_said result) (watched (started there result) states.exit told.exit) }
+    ensures { (there : Watcher) → Starts activities numbers.now (watched there states.old told.old)
+        (start_said result) (watched (started there result) states.new told.new) }
 {
     let answer = start_answer(activities, numbers);
     match answer {
@@ -278,8 +278,8 @@ pub fn step(
     told: &mut [u8; MOST_CONSTRAINTS],
     activity: u32,
 ) -> StepResult
-    ensures { Steps numbers.now (watched watcher states.entry told.entry) activity
-        (done_said result.answer) (watched result.watcher states.exit told.exit) }
+    ensures { Steps numbers.now (watched watcher states.old told.old) activity
+        (done_said result.answer) (watched result.watcher states.new told.new) }
 {
     let answer = step_answer(watcher, numbers.len(), activity);
     match answer {
