@@ -6,14 +6,14 @@ use native.Mathlib.Decide.{ℕ_discrete}
 use native.Mathlib.Nat.{zero-add, add-zero, add-suc, suc-add, not-suc-le-zero, le_of_suc-le-suc}
 use mathlib.Core.Path.{◌≡◌, refl, sym, ap, ap₂, subst, ◌∙◌}
 use mathlib.Core.Logic.{◌⊎◌, inl, inr, ⊎_elim}
-use mathlib.Core.Bool.{Bool, true, false, not, ◌&&◌, and-true, and_assoc, true≢false, false≢true}
+use mathlib.Core.Bool.{Bool, true, false, cond, not, ◌&&◌, and-true, and_assoc, true≢false, false≢true}
 use mathlib.Core.List.Memᴰ
 use mathlib.Core.List.{List, [], ◌∷◌, ◌++◌, map, append_assoc, append-nil, Memᴰ, Sublistᴰ, Permᴰ}
 use borrow.Author.Tests.{eqb-true, eqb-false}
 use lib.Dec.{eqb, eqb-zero-suc, eqb-suc-suc}
 use lib.ListN.{length, take, drop, get_or, length-append}
 use lib.Seq.{slice, take-nil}
-use Rattle.base.specs.Logic.{if◌then◌else◌}
+use Rattle.std.specs.Prelude.{if◌then◌else◌}
 use Rattle.base.specs.Lists.{filter, count, all, find_index, range, flat_map, equal_lists}
 use Rattle.base.proofs.Bools.{and_left, and_right, and_both, either}
 
@@ -93,7 +93,7 @@ pub all_filter {ℓ} : {A : Type ℓ} (p q : A → Bool) (xs : List A) → all p
 all_filter p q [] h = refl
 all_filter p q (x ∷ xs) h = go (q x) (all_filter p q xs (and_right (p x) (all p xs) h))
   where
-    go : (t : Bool) → all p (filter q xs) ≡ true → all p (if t then x ∷ filter q xs else filter q xs) ≡ true
+    go : (t : Bool) → all p (filter q xs) ≡ true → all p (cond t (x ∷ filter q xs) (filter q xs)) ≡ true
     go true rest = and_both (p x) (all p (filter q xs)) (and_left (p x) (all p xs) h) rest
     go false rest = rest
 
@@ -144,7 +144,7 @@ module _ {A : Type 0} (p : A → Bool) where
       below k = (Memᴰ.tail k.0, k.1)
 
       go :
-          (t : Bool) → p y ≡ t → Memᴰ x (if t then y ∷ filter p xs else filter p xs) →
+          (t : Bool) → p y ≡ t → Memᴰ x (cond t (y ∷ filter p xs) (filter p xs)) →
           (Memᴰ x (filter p xs) → Memᴰ x xs × (p x ≡ true)) → Memᴰ x (y ∷ xs) × (p x ≡ true)
       go true e h f = ⊎_elim (λ q. (Memᴰ.head q, ap p q ∙ e)) (λ k. below (f k)) (Memᴰ.cases_cons h)
       go false e h f = below (f h)
@@ -155,7 +155,7 @@ module _ {A : Type 0} (p : A → Bool) where
     where
       go :
           (t : Bool) → p y ≡ t → (x ≡ y) ⊎ Memᴰ x xs → (Memᴰ x xs → Memᴰ x (filter p xs)) →
-          Memᴰ x (if t then y ∷ filter p xs else filter p xs)
+          Memᴰ x (cond t (y ∷ filter p xs) (filter p xs))
       go true e (inl q) f = Memᴰ.head q
       go true e (inr h) f = Memᴰ.tail (f h)
       go false e (inl q) f = absurd (true≢false (sym k ∙ ap p q ∙ e))
@@ -165,7 +165,7 @@ module _ {A : Type 0} (p : A → Bool) where
   filter_sublist [] = Sublistᴰ.slnil
   filter_sublist (x ∷ xs) = go (p x) (filter_sublist xs)
     where
-      go : (t : Bool) → Sublistᴰ (filter p xs) xs → Sublistᴰ (if t then x ∷ filter p xs else filter p xs) (x ∷ xs)
+      go : (t : Bool) → Sublistᴰ (filter p xs) xs → Sublistᴰ (cond t (x ∷ filter p xs) (filter p xs)) (x ∷ xs)
       go true s = Sublistᴰ.cons-cons refl s
       go false s = Sublistᴰ.cons s
 
@@ -180,7 +180,7 @@ module _ {A : Type 0} (p : A → Bool) where
     where
       go :
           (t : Bool) → filter p (xs ++ ys) ≡ filter p xs ++ filter p ys →
-          (if t then x ∷ filter p (xs ++ ys) else filter p (xs ++ ys)) ≡ (if t then x ∷ filter p xs else filter p xs) ++ filter p ys
+          (cond t (x ∷ filter p (xs ++ ys)) (filter p (xs ++ ys))) ≡ (cond t (x ∷ filter p xs) (filter p xs)) ++ filter p ys
       go true e = ap (λ (l : List A). x ∷ l) e
       go false e = e
 
@@ -194,7 +194,7 @@ more_if false false x y f h = h
 pub count_cons {ℓ} : {A : Type ℓ} (p : A → Bool) (x : A) (xs : List A) → count p (x ∷ xs) ≡ (if p x then suc (count p xs) else count p xs)
 count_cons p x xs = go (p x)
   where
-    go : (t : Bool) → length (if t then x ∷ filter p xs else filter p xs) ≡ (if t then suc (count p xs) else count p xs)
+    go : (t : Bool) → length (cond t (x ∷ filter p xs) (filter p xs)) ≡ (if t then suc (count p xs) else count p xs)
     go true = refl
     go false = refl
 
@@ -227,7 +227,7 @@ count_filter q p (x ∷ xs) = go (q x) refl (count_filter q p xs)
   where
     go :
         (t : Bool) → q x ≡ t → count p (filter q xs) ≡ count (λ x. q x && p x) xs →
-        count p (if t then x ∷ filter q xs else filter q xs) ≡ count (λ x. q x && p x) (x ∷ xs)
+        count p (cond t (x ∷ filter q xs) (filter q xs)) ≡ count (λ x. q x && p x) (x ∷ xs)
     go true e h = count_cons p x (filter q xs) ∙ rw h (sym (count_cons (λ x. q x && p x) x xs ∙ rw e))
     go false e h = h ∙ sym (count_cons (λ x. q x && p x) x xs ∙ rw e)
 

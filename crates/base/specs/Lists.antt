@@ -1,7 +1,6 @@
 -- Lists: non_empty, filter, count, all, find index, range, flat map, equality. (The library's filter and count go by decisions, not by tests.)
 -- Assumes nothing.
-use Rattle.std.specs.Prelude.{ℕ, zero, suc, Bool, true, false, ◌&&◌, List, [], ◌∷◌, ◌++◌, length}
-use Rattle.base.specs.Logic.{if◌then◌else◌}
+use Rattle.std.specs.Prelude.{ℕ, zero, suc, Bool, true, false, ◌&&◌, List, [], ◌∷◌, ◌++◌, length, cond}
 
 -- of length 1 or more
 abbrev pub non_empty {ℓ} : {A : Type ℓ} → List A → Bool
@@ -11,7 +10,7 @@ non_empty (x ∷ xs) = true
 -- those that pass a test
 abbrev pub filter {ℓ} : {A : Type ℓ} → (A → Bool) → List A → List A
 filter p [] = []
-filter p (x ∷ xs) = if p x then x ∷ filter p xs else filter p xs
+filter p (x ∷ xs) = cond (p x) (x ∷ filter p xs) (filter p xs)
 
 abbrev pub count {ℓ} : {A : Type ℓ} → (A → Bool) → List A → ℕ
 count p xs = length (filter p xs)
@@ -23,7 +22,7 @@ all p (x ∷ xs) = p x && all p xs
 -- the index of the first that passes a test, and the length where none does
 abbrev pub find_index {ℓ} : {A : Type ℓ} → (A → Bool) → List A → ℕ
 find_index p [] = 0
-find_index p (x ∷ xs) = if p x then 0 else suc (find_index p xs)
+find_index p (x ∷ xs) = cond (p x) 0 (suc (find_index p xs))
 
 -- as many numbers as said, from the first on
 abbrev pub range : ℕ → ℕ → List ℕ

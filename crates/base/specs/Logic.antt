@@ -3,14 +3,9 @@
 use Rattle.std.specs.Prelude.{ℕ, Bool, true, false, ◌&&◌, leb}
 
 infixr 20 ◌implies◌
-infixr 10 if◌then◌else◌
 abbrev pub ◌implies◌ : Bool → Bool → Bool
 true implies q = q
 false implies q = true
-
-abbrev pub if◌then◌else◌ {ℓ} : {A : Type ℓ} → Bool → A → A → A
-if true then x else y = x
-if false then x else y = y
 
 abbrev pub in_range : ℕ → ℕ → ℕ → Bool
 in_range low n high = leb low n && leb n high

@@ -1,8 +1,7 @@
 -- How the code goes over a log's lines, with numbers for what stands before a line. Nothing here has to be believed: proofs/Agree.antt
 -- and proofs/Written.antt show that it comes to `log_checks` and `spelled`.
 -- Assumes nothing.
-use Rattle.std.specs.Prelude.{ℕ, ◌+◌, ◌-◌, ◌*◌, ◌≤◌, ◌<◌, ◌≡◌, List, [], ◌∷◌, length, set, eqb, leb, ltb}
-use Rattle.base.specs.Logic.{if◌then◌else◌}
+use Rattle.std.specs.Prelude.{ℕ, ◌+◌, ◌-◌, ◌*◌, ◌≤◌, ◌<◌, ◌≡◌, List, [], ◌∷◌, length, set, eqb, leb, ltb, if◌then◌else◌}
 use Rattle.answers.specs.declared.CountAnswer.{CountAnswer}
 use Rattle.eventlog.specs.declared.Room.{Room}
 use Rattle.eventlog.specs.Store.{most_traces, longest_trace, Memory, with_kept, full}

@@ -9,7 +9,7 @@ use borrow.Author.Tests.{ltb-true, ltb-false, lt-ltb, le-ltb, ne_eqb, not-false}
 use lib.Dec.{eqb, ltb}
 use lib.ListN.{length}
 use Rattle.base.specs.Checks.{Reply, gives, refused, reply}
-use Rattle.base.specs.Logic.{if◌then◌else◌}
+use Rattle.std.specs.Prelude.{if◌then◌else◌}
 use Rattle.base.proofs.Checks.{NoneFail}
 use Rattle.base.proofs.Outcomes.{outcome_refused, outcome_accepted}
 use Rattle.base.proofs.Lists.{count_at_most}

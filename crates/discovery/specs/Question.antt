@@ -1,7 +1,7 @@
 -- Discovery (document 01: finding): a question to the finder, the constraints' counts, which of them pruning keeps and which are listed.
 -- Assumes nothing.
-use Rattle.std.specs.Prelude.{ℕ, ◌*◌, Bool, true, false, ◌&&◌, ◌||◌, List, [], ◌∷◌, eqb, leb, length}
-use Rattle.base.specs.Logic.{if◌then◌else◌, in_range}
+use Rattle.std.specs.Prelude.{ℕ, ◌*◌, Bool, true, false, ◌&&◌, ◌||◌, List, [], ◌∷◌, eqb, leb, length, if◌then◌else◌}
+use Rattle.base.specs.Logic.{in_range}
 use Rattle.declare.specs.Meaning.{occurs, fulfilled}
 use Rattle.eventlog.specs.Store.{Memory, kept}
 use Rattle.discovery.specs.declared.Settings.{Settings}

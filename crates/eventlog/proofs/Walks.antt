@@ -12,7 +12,7 @@ use lib.ListN.{length, get_or, drop, drop_of_length-le}
 use lib.Seq.{drop-cons}
 use Rattle.eventlog.specs.Store.{longest_trace, last_from, rising, all_below}
 use Rattle.eventlog.specs.Calls.{declared_front}
-use Rattle.base.specs.Logic.{if◌then◌else◌}
+use Rattle.std.specs.Prelude.{if◌then◌else◌}
 use Rattle.base.proofs.Lists.{find_index_within, all_by_index, find_index_first}
 
 pub last_none : (ends : List ℕ) → length ends ≡ 0 → last_from 0 ends ≡ 0

@@ -1,7 +1,6 @@
 -- What is printed: fields justified and filled as in the log, each line ended by a line feed.
 -- Assumes nothing.
-use Rattle.std.specs.Prelude.{ℕ, ◌+◌, ◌*◌, List, [], ◌∷◌, ◌++◌, leb, length, replicate}
-use Rattle.base.specs.Logic.{if◌then◌else◌}
+use Rattle.std.specs.Prelude.{ℕ, ◌+◌, ◌*◌, List, [], ◌∷◌, ◌++◌, leb, length, replicate, if◌then◌else◌}
 use Rattle.fields.specs.Field.{blank, line_feed, spell}
 use Rattle.base.specs.Lists.{flat_map}
 use Rattle.discovery.specs.Question.{Question, trace_count, fulfilments, listed, replayed}

@@ -1,7 +1,6 @@
 -- What the stages of `report` promise each other.
 -- Assumes nothing.
-use Rattle.std.specs.Prelude.{ℕ, ◌*◌, ◌≤◌, ◌≡◌, List, ◌++◌, length}
-use Rattle.base.specs.Logic.{if◌then◌else◌}
+use Rattle.std.specs.Prelude.{ℕ, ◌*◌, ◌≤◌, ◌≡◌, List, ◌++◌, length, if◌then◌else◌}
 use Rattle.base.specs.Checks.{Check, Outcome}
 use Rattle.discovery.specs.declared.FindAnswer.{FindAnswer}
 use Rattle.discovery.specs.declared.Settings.{Settings}

@@ -8,7 +8,8 @@ use mathlib.Core.Logic.{◌⊎◌, inl, inr}
 use mathlib.Core.List.{List, [], ◌∷◌, ◌++◌}
 use borrow.Author.Tests.{eqb-true, eqb-false, ltb-true, lt-ltb, not-true, eq-eqb, ne_eqb}
 use lib.Dec.{eqb, leb, ltb}
-use Rattle.base.specs.Logic.{◌implies◌, if◌then◌else◌}
+use Rattle.std.specs.Prelude.{if◌then◌else◌}
+use Rattle.base.specs.Logic.{◌implies◌}
 use Rattle.base.specs.Lists.{all, range}
 use Rattle.base.proofs.Bools.{equal_same, and_left, and_right, and_both, implied, fails_too, either, at_both, clash, not_itself}
 use Rattle.base.proofs.Lists.{all_range, all_append}

@@ -1,9 +1,8 @@
 -- The templates' automata with one of the four states in each of theirs, and the table that the watcher goes by. Nothing here has to be
 -- believed: proofs/Outlooks.antt shows that it comes to `State`.
 -- Assumes nothing.
-use Rattle.std.specs.Prelude.{ℕ, zero, suc, ◌+◌, ◌-◌, ◌*◌, Bool, true, false, not, ◌&&◌, ◌||◌, List, [], ◌∷◌, eqb, leb}
+use Rattle.std.specs.Prelude.{ℕ, zero, suc, ◌+◌, ◌-◌, ◌*◌, Bool, true, false, not, ◌&&◌, ◌||◌, List, [], ◌∷◌, eqb, leb, if◌then◌else◌}
 use Rattle.std.specs.Bool.{beq}
-use Rattle.base.specs.Logic.{if◌then◌else◌}
 use Rattle.base.specs.Lists.{range, flat_map}
 use Rattle.declare.specs.declared.constraints.Constraint.{Constraint}
 use Rattle.declare.specs.Automata.{next_of, verdict_of, follow, letter, stands}

@@ -9,7 +9,8 @@ use native.Mathlib.Decide.{ℕ_discrete, dec_lt}
 use borrow.Author.Tests.{leb-true, le-leb, lt-leb}
 use lib.Dec.{eqb, leb}
 use lib.Seq.{append_snoc}
-use Rattle.base.specs.Logic.{◌implies◌, if◌then◌else◌}
+use Rattle.std.specs.Prelude.{if◌then◌else◌}
+use Rattle.base.specs.Logic.{◌implies◌}
 use Rattle.declare.specs.Meaning.{Test, each_on, some_on, each, some, occurs, times, starts_with, ends_with, response, alternate_response, chain_response, precedence, alternate_precedence, chain_precedence, meanings, holds, activated, fulfilled}
 use Rattle.base.proofs.Bools.{and_left, and_right, and_both, implied, fails_too}
 use Rattle.base.proofs.Lists.{count_weaker}
