@@ -10,7 +10,7 @@ use mir.Val.{bool_byte}
 use borrow.Author.Tests.{eqb-true, eqb-false}
 use lib.Dec.{eqb}
 use lib.ListN.{get_or}
-use Rattle.base.specs.Logic.{if◌then◌else◌}
+use Rattle.std.specs.Prelude.{if◌then◌else◌}
 use Rattle.base.specs.Lists.{all, range, equal_lists}
 use Rattle.base.proofs.Bools.{equal_same, and_left, and_right, either}
 use Rattle.base.proofs.Lists.{equal_lists_same, all_range, range_at}

@@ -9,7 +9,8 @@ use mathlib.Core.List.{List, [], ◌∷◌, ◌++◌, map, append_assoc, append-
 use borrow.Author.Tests.{le-leb, lt-leb, leb-true, leb-false}
 use lib.Dec.{eqb, leb, leb-suc-suc, leb-zero}
 use lib.ListN.{get_or, get_or-map}
-use Rattle.base.specs.Logic.{◌implies◌, if◌then◌else◌}
+use Rattle.std.specs.Prelude.{if◌then◌else◌}
+use Rattle.base.specs.Logic.{◌implies◌}
 use Rattle.declare.specs.Meaning.{Test, Meaning, each_on, some, occurs, times, starts_with, ends_with, precedence, alternate_precedence, chain_precedence, meanings, never, holds, activated, verdict}
 use Rattle.declare.proofs.Summary.{Summary, no_event_yet, stepped, stepped_all, answers, answer, summed}
 use Rattle.base.proofs.Bools.{Expression, agree, by_cases}

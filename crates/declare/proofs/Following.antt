@@ -49,7 +49,7 @@ low template a b takes e =
 pub follow_append : (template a b k : ℕ) (trace more : List ℕ)
     → follow template a b k (trace ++ more) ≡ follow template a b (follow template a b k trace) more
 follow_append template a b k [] more = refl
-follow_append template a b k (x ∷ trace) more = follow_append template a b _ trace more
+follow_append template a b k (x ∷ trace) more = follow_append template a b (next_of template k (letter a b x)) trace more
 
 -- a beside itself is as a beside what no event is
 beside_none : (template n a k : ℕ) (trace : List ℕ) → all (λ x. ltb x n) trace ≡ true → follow template a a k trace ≡ follow template a n k trace
@@ -58,7 +58,7 @@ beside_none template n a k (x ∷ trace) within =
     let rest = all (λ x. ltb x n) trace in
     let small = ltb-true x n (and_left (ltb x n) rest within) in
     ap (λ l. follow template a a (next_of template k l) trace) (same_letter small (eqb x a) refl)
-    ∙ beside_none template n a _ trace (and_right (ltb x n) rest within)
+    ∙ beside_none template n a (next_of template k (letter a n x)) trace (and_right (ltb x n) rest within)
   where
     same_letter : x < n → (p : Bool) → eqb x a ≡ p → letter a a x ≡ letter a n x
     same_letter small true e = rw e

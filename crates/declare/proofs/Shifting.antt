@@ -9,7 +9,7 @@ use borrow.Author.Tests.{eqb-true, eqb-false, ltb-true}
 use lib.Dec.{eqb, ltb}
 use lib.ListN.{get_or, set, replicate, length, length-set, get_or-replicate}
 use lib.Seq.{get_or-set_same, get_or-set_other}
-use Rattle.base.specs.Logic.{if◌then◌else◌}
+use Rattle.std.specs.Prelude.{if◌then◌else◌}
 use Rattle.base.specs.Lists.{all, range}
 use Rattle.base.proofs.Lists.{all_range}
 use Rattle.base.proofs.Bools.{and_left, and_right, either}
@@ -93,7 +93,7 @@ module _ (template : ℕ) (low : 1 ≤ template) (high : template ≤ 24) where
 
   pub follow_small : (a b k : ℕ) (trace : List ℕ) → k < 8 → follow template a b k trace < 8
   follow_small a b k [] small = small
-  follow_small a b k (x ∷ trace) small = follow_small a b _ trace (next_small k (letter a b x) small (letter_small a b x))
+  follow_small a b k (x ∷ trace) small = follow_small a b (next_of template k (letter a b x)) trace (next_small k (letter a b x) small (letter_small a b x))
 
   known_automaton : automaton template ≡ words template
   unfolding automaton

@@ -8,7 +8,7 @@ use lib.Dec.{eqb}
 use lib.ListN.{get_or}
 use Rattle.declare.specs.declared.Verdict.{Verdict}
 use Rattle.declare.specs.declared.Verdict.TheVariants.{Fulfilled, NotActivated, Violated}
-use Rattle.base.specs.Logic.{if◌then◌else◌}
+use Rattle.std.specs.Prelude.{if◌then◌else◌}
 use Rattle.declare.specs.Meaning.{activated_when}
 
 -- What the events so far tell of the activities a and b.

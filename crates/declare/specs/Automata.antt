@@ -1,12 +1,12 @@
 -- The automata of the templates, the two tables that hold them, and replay by shifting. Nothing here has to be believed: proofs/Following.antt
 -- shows that it comes to `verdict`.
 -- Assumes nothing.
-use Rattle.std.specs.Prelude.{ℕ, zero, suc, ◌+◌, ◌-◌, ◌*◌, ◌/◌, ◌%◌, ◌^◌, Bool, true, false, List, [], ◌∷◌, map, eqb, get_or, set, replicate}
+use Rattle.std.specs.Prelude.{ℕ, zero, suc, ◌+◌, ◌-◌, ◌*◌, ◌/◌, ◌%◌, ◌^◌, Bool, true, false, List, [], ◌∷◌, map, eqb, get_or, set, replicate, if◌then◌else◌}
 use Rattle.declare.specs.declared.Verdict.{Verdict}
 use Rattle.declare.specs.declared.Verdict.TheVariants.{Fulfilled, NotActivated, Violated}
 use Rattle.declare.specs.declared.Automaton.{Automaton}
 use Rattle.declare.specs.declared.Replayer.{Replayer}
-use Rattle.base.specs.Logic.{if◌then◌else◌, in_range}
+use Rattle.base.specs.Logic.{in_range}
 use Rattle.base.specs.Lists.{range, flat_map}
 
 -- ## The automata

@@ -1,8 +1,7 @@
 -- The constraints (document 01: the rules) over n activities: which there are, and their order.
 -- Assumes nothing.
-use Rattle.std.specs.Prelude.{ℕ, ◌≤◌, ◌<◌, ◌≡◌, ◌⊎◌, ◌↔◌, Bool, true, not, eqb, leb, ltb}
+use Rattle.std.specs.Prelude.{ℕ, ◌≤◌, ◌<◌, ◌≡◌, ◌⊎◌, ◌↔◌, Bool, true, not, eqb, leb, ltb, if◌then◌else◌}
 use mathlib.Core.List.{List, [], ◌∷◌, Mem, Pairwise}
-use Rattle.base.specs.Logic.{if◌then◌else◌}
 use Rattle.base.specs.Lists.{range, flat_map}
 use Rattle.declare.specs.declared.constraints.Constraint.{Constraint}
 

@@ -1,9 +1,9 @@
 -- What the 24 templates mean on a trace of activities (document 01: a run of steps), after its section of that name.
 -- Assumes nothing.
-use Rattle.std.specs.Prelude.{ℕ, suc, Bool, true, false, not, ◌&&◌, ◌||◌, List, [], ◌∷◌, ◌++◌, eqb, leb, get_or}
+use Rattle.std.specs.Prelude.{ℕ, suc, Bool, true, false, not, ◌&&◌, ◌||◌, List, [], ◌∷◌, ◌++◌, eqb, leb, get_or, if◌then◌else◌}
 use Rattle.declare.specs.declared.Verdict.{Verdict}
 use Rattle.declare.specs.declared.Verdict.TheVariants.{Fulfilled, NotActivated, Violated}
-use Rattle.base.specs.Logic.{◌implies◌, if◌then◌else◌, in_range}
+use Rattle.base.specs.Logic.{◌implies◌, in_range}
 
 -- A test of a place of a trace: of what comes before it, the activity there, and what comes after it.
 abbrev pub Test : Type 0

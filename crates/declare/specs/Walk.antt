@@ -1,8 +1,7 @@
 -- The walk over the constraints: from each the next one. Nothing here has to be believed: proofs/constraints/Walk.antt shows that it visits
 -- `constraints n`, each at its place.
 -- Assumes nothing.
-use Rattle.std.specs.Prelude.{ℕ, ◌+◌, ◌&&◌, eqb, leb, ltb}
-use Rattle.base.specs.Logic.{if◌then◌else◌}
+use Rattle.std.specs.Prelude.{ℕ, ◌+◌, ◌&&◌, eqb, leb, ltb, if◌then◌else◌}
 use Rattle.declare.specs.declared.constraints.Constraint.{Constraint}
 use Rattle.declare.specs.Constraints.{constraint}
 

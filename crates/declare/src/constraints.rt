@@ -1,6 +1,5 @@
 // The constraints over the activities below some number, in the stated order: by template, then a, then b.
-ghost use Rattle.std.specs.Prelude.{◌≡◌, length, ◌+◌, ltb};
-ghost use Rattle.base.specs.Logic.{if◌then◌else◌};
+ghost use Rattle.std.specs.Prelude.{◌≡◌, length, ◌+◌, ltb, if◌then◌else◌};
 ghost use Rattle.declare.specs.Constraints.{constraints};
 ghost use Rattle.declare.specs.Walk.{first_of, partner as partner_of, next as next_of};
 

@@ -14,7 +14,7 @@ use native.Mathlib.Nat.{ℕ_set, mul_assoc, mul-suc, suc-mul, mul-add}
 use borrow.Author.Tests.{le-leb, lt-leb, eq-eqb, ne_eqb, lt-ltb, le-ltb}
 use lib.Dec.{eqb, ltb}
 use lib.ListN.{length, length-append}
-use Rattle.base.specs.Logic.{if◌then◌else◌}
+use Rattle.std.specs.Prelude.{if◌then◌else◌}
 use Rattle.base.specs.Lists.{filter, count, range, flat_map}
 use Rattle.base.proofs.Lists.{filter_member, member_filter, filter_sublist, count_cons, not_counted, flat_map_member, member_flat_map, flat_map_append, range_member, member_range, range_length}
 use Rattle.declare.specs.declared.constraints.Constraint.{Constraint}
