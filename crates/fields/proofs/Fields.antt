@@ -11,7 +11,7 @@ use native.Mathlib.Nat.{sub-zero, zero-mul, zero-add, pow-suc, mul_assoc, one-le
 use lib.Dec.{eqb, leb}
 use lib.ListN.{length, take, drop, replicate, length-append, length-replicate, length-reverse, take-append-drop}
 use borrow.Author.Tests.{le-leb, lt-leb, leb-true, leb-false, eqb-true, eqb-false}
-use Rattle.base.specs.Logic.{if◌then◌else◌}
+use Rattle.std.specs.Prelude.{if◌then◌else◌}
 use Rattle.fields.specs.declared.Field.{Field}
 use Rattle.fields.specs.declared.Scan.{Scan}
 use Rattle.fields.specs.declared.Scan.TheVariants.{Blanks}

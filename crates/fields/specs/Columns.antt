@@ -1,8 +1,7 @@
 -- How the code puts a field: from its last column to its first. Nothing here has to be believed: proofs/Columns.antt shows that it comes
 -- to `spell`.
 -- Assumes nothing.
-use Rattle.std.specs.Prelude.{ℕ, zero, suc, ◌+◌, ◌/◌, ◌%◌, List, [], ◌∷◌, ◌++◌, eqb}
-use Rattle.base.specs.Logic.{if◌then◌else◌}
+use Rattle.std.specs.Prelude.{ℕ, zero, suc, ◌+◌, ◌/◌, ◌%◌, List, [], ◌∷◌, ◌++◌, eqb, if◌then◌else◌}
 use Rattle.fields.specs.Field.{blank}
 
 -- a column before a field's last: a digit, or blank where nothing is left of the number

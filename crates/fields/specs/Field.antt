@@ -1,7 +1,7 @@
 -- Fields of columns: decimal, right-justified, filled with blanks, without leading zeros.
 -- Assumes nothing.
-use Rattle.std.specs.Prelude.{ℕ, zero, suc, ◌+◌, ◌-◌, ◌*◌, ◌/◌, ◌%◌, ◌^◌, Bool, false, not, ◌&&◌, List, [], ◌∷◌, ◌++◌, reverse, eqb, leb, length, replicate}
-use Rattle.base.specs.Logic.{if◌then◌else◌, in_range}
+use Rattle.std.specs.Prelude.{ℕ, zero, suc, ◌+◌, ◌-◌, ◌*◌, ◌/◌, ◌%◌, ◌^◌, Bool, false, not, ◌&&◌, List, [], ◌∷◌, ◌++◌, reverse, eqb, leb, length, replicate, if◌then◌else◌}
+use Rattle.base.specs.Logic.{in_range}
 use Rattle.base.specs.Lists.{all}
 use Rattle.fields.specs.declared.Field.{Field}
 

@@ -1,8 +1,7 @@
 -- How the code reads a field, from the left with the value so far, and what is claimed of that value.
 -- Assumes nothing.
-use Rattle.std.specs.Prelude.{ℕ, ◌+◌, ◌-◌, ◌*◌, ◌≡◌, Bool, true, ◌&&◌, eqb, leb, take}
+use Rattle.std.specs.Prelude.{ℕ, ◌+◌, ◌-◌, ◌*◌, ◌≡◌, Bool, true, ◌&&◌, eqb, leb, take, if◌then◌else◌}
 use mathlib.Core.List.{List, foldl}
-use Rattle.base.specs.Logic.{if◌then◌else◌}
 use Rattle.base.specs.Lists.{all}
 use Rattle.fields.specs.declared.Field.{Field}
 use Rattle.fields.specs.declared.Scan.{Scan}
