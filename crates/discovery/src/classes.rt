@@ -70,8 +70,8 @@ fn counts_for(class: Class, a: u8, b: u8, trace: &[u8]) -> bool
 
 // How many kept traces of length 1 or more count for the constraint's class.
 fn support(store: Store, events: &[u8], ends: &[u32], class: Class, c: Constraint) -> u32
-    requires ends_value { sound (lent store events.now ends.now) ≡ true }
-    requires class_value { class ≡ class_of c.template }
+    requires is_sound { sound (lent store events.now ends.now) ≡ true }
+    requires same_class { class ≡ class_of c.template }
     ensures { result ≡ support_of (filter non_empty (kept (lent store events.now ends.now))) c }
 {
     let kept = store.traces as usize;
@@ -140,7 +140,7 @@ pub(crate) fn survives(
     c: Constraint,
 ) -> bool
     requires measured { Measured (lent store events.now ends.now) measure }
-    requires class_value { class ≡ class_of c.template }
+    requires same_class { class ≡ class_of c.template }
     ensures { result ≡ survives_test (asked (lent store events.now ends.now) measure.settings) c }
 {
     if always(class) {

@@ -63,7 +63,7 @@ pub enum FindAnswer {
 // Looks whether the list fits, and leaves the slice as it was. Where there is room for all constraints, nothing is replayed for it.
 fn look(store: Store, events: &[u8], ends: &[u32], measure: Measure, list: &mut [u16]) -> Fit
     requires { Measured (lent store events.now ends.now) measure }
-    ensures value { result ≡ fit_of (length (listed (asked (lent store events.now ends.now) measure.settings))) list.old }
+    ensures fit { result ≡ fit_of (length (listed (asked (lent store events.now ends.now) measure.settings))) list.old }
     ensures list_unchanged { list.new ≡ list.old }
 {
     let all = declare::constraint_count(store.activities as u8);

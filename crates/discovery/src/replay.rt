@@ -40,7 +40,7 @@ fn fulfilled_by(
     c: Constraint,
 ) -> u32
     requires moves_for { MovesFor c moves.now verdicts }
-    requires ends_value { sound (lent store events.now ends.now) ≡ true }
+    requires is_sound { sound (lent store events.now ends.now) ≡ true }
     requires over { Over store.activities c }
     ensures { result ≡ fulfilments (filter non_empty (kept (lent store events.now ends.now))) c }
 {
@@ -71,7 +71,7 @@ pub(crate) fn replay(
     c: Constraint,
     replayed: u32,
 ) -> Replayed
-    requires ends_value { sound (lent store events.now ends.now) ≡ true }
+    requires is_sound { sound (lent store events.now ends.now) ≡ true }
     requires kept { Kept (asked (lent store events.now ends.now) settings) automaton c }
     requires at_most_all { AtMostAll store.activities replayed }
     ensures { Replays (asked (lent store events.now ends.now) settings) c replayed result }
