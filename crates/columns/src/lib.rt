@@ -212,8 +212,8 @@ fn write_line(
     ends: &mut [u32],
 ) -> Progress
     requires { Writable (lent store events.old ends.old) p entry }
-    ensures value { result ≡ moved p entry }
-    ensures ends_value { lent store events.new ends.new ≡ line_written p entry (lent store events.old ends.old) }
+    ensures progress { result ≡ moved p entry }
+    ensures written { lent store events.new ends.new ≡ line_written p entry (lent store events.old ends.old) }
 {
     match entry {
         Entry::Malformed => p,
@@ -230,7 +230,7 @@ fn write_line(
 
 // The events and ends of a log that the first pass has accepted, written.
 fn write_lines(store: Store, events: &mut [u8], ends: &mut [u32], log: &[u8])
-    requires ends_value { sound (lent store events.old ends.old) ≡ true }
+    requires is_sound { sound (lent store events.old ends.old) ≡ true }
     requires accepted { IsAccepted (survey_of (room_in (lent store events.old ends.old)) (at_start (room_in (lent store events.old ends.old))) 1 (lines log.now)) }
     ensures { lent store events.new ends.new ≡
         lines_written (at_start (room_in (lent store events.old ends.old))) (lent store events.old ends.old) (lines log.now) }
