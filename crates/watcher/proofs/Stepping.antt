@@ -1,17 +1,17 @@
 -- What step answers decides what it leaves; of a memory that a start and steps made, the next one.
 -- Assumes nothing.
-use Prim.Native.Nat.{ℕ, ◌+◌, ◌*◌, ◌/◌}
+use Prim.Native.Nat.{ℕ, ◌+◌, ◌*◌, ◌/◌, ◌≤◌, ◌<◌}
 use native.Mathlib.Omega.{arith}
 use mathlib.Core.Path.{◌≡◌, refl, sym, ap, ap₂, ◌∙◌}
 use mathlib.Core.Bool.{true, ◌&&◌}
 use mathlib.Core.List.{List, [], ◌∷◌, ◌++◌}
-use borrow.Author.Tests.{leb-false, not-false, le-leb, eq-eqb}
+use borrow.Author.Tests.{eqb-true, leb-true, leb-false, ltb-true, not-false, le-leb, eq-eqb}
 use lib.Dec.{eqb, leb, ltb}
 use lib.ListN.{length, length-append}
-use Rattle.base.specs.Checks.{refused, reply}
-use Rattle.base.proofs.Bools.{and_both}
+use Rattle.base.specs.Checks.{gives, refused, reply}
+use Rattle.base.proofs.Bools.{and_left, and_right, and_both}
 use Rattle.base.proofs.Lists.{all_append}
-use Rattle.base.proofs.Checks.{NoneFail, refused_each}
+use Rattle.base.proofs.Checks.{NoneFail, none_fail, Each, refused_each}
 use Rattle.base.proofs.Outcomes.{outcome_refused, outcome_accepted}
 use Rattle.answers.specs.declared.Refusal.{Refusal}
 use Rattle.answers.specs.declared.DoneAnswer.{DoneAnswer}
@@ -22,6 +22,33 @@ use Rattle.watcher.specs.Calls.{most_constraints, Slots, Watched, watcher_after,
 use Rattle.watcher.specs.Table.{table}
 use Rattle.watcher.specs.Loops.{each_of, turn_by, usable, checks_of_step}
 use Rattle.watcher.proofs.Making.{not_many, none_cut, few_activities, stepping}
+
+-- ## What is known where every check passes
+
+pub record Fits (w : Watcher) (numbers activity : ℕ) : Type 0 where
+  pub activities : w.activities ≤ 32
+  pub constraints : w.constraints ≤ 256
+  pub whole : 3 * w.constraints ≡ numbers
+  pub declared : activity < w.activities
+  pub short : w.taken < 4096
+
+pub fits : (w : Watcher) (numbers activity : ℕ) → gives [] ≡ reply (checks_of_step w numbers activity) [] → Fits w numbers activity
+fits w numbers activity said =
+    let passed = none_fail (checks_of_step w numbers activity) [] [] (sym said) in
+    let few = leb w.activities most_activities in
+    let room = leb w.constraints most_constraints in
+    let sized = eqb (3 * w.constraints) numbers in
+    let short = leb w.taken longest_trace in
+    let all-four = not-false (usable w numbers) passed.0 in
+    let three = and_left (few && room && sized) short all-four in
+    let two = and_left (few && room) sized three in
+    record {
+      activities = leb-true _ _ (and_left few room two);
+      constraints = leb-true _ _ (and_right few room two);
+      whole = eqb-true _ _ (and_right (few && room) sized three);
+      declared = ltb-true activity w.activities (not-false _ passed.1.0);
+      short = leb-false longest_trace w.taken passed.1.1.0;
+    }
 
 -- ## A memory that a start and steps made
 

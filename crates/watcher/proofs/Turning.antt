@@ -14,6 +14,9 @@ use Rattle.watcher.specs.Loops.{each_of}
 
 -- ## One turn of a loop
 
+pub turns_due : (turn : ℕ → Slots → Slots) (count : ℕ) (l : Slots) → each_of turn count 0 l ≡ each_of turn (count - 0) 0 l
+turns_due turn count l = let all : count ≡ count - 0 = omega arith in ap (λ n. each_of turn n 0 l) all
+
 pub turns_done : (turn : ℕ → Slots → Slots) (count at : ℕ) (l : Slots) → count ≤ at → each_of turn (count - at) at l ≡ l
 unfolding each_of
 turns_done turn count at l h = let none : count - at ≡ 0 = omega arith in ap (λ n. each_of turn n at l) none

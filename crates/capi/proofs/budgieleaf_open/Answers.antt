@@ -1,5 +1,4 @@
 -- What open leaves of the record that the numbers make.
-use borrow.Author.Rules.{rules}
 use mathlib.Core.Path.{refl}
 use Rattle.capi.specs.Numbers.{store_of}
 use Rattle.capi.proofs.budgieleaf_open.Goals as goal

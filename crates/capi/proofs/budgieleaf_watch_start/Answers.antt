@@ -1,5 +1,4 @@
 -- What start leaves of the record that the numbers make.
-use borrow.Author.Rules.{rules}
 use mathlib.Core.Path.{refl}
 use Rattle.capi.specs.Numbers.{watcher_of}
 use Rattle.capi.proofs.budgieleaf_watch_start.Goals as goal
