@@ -1,16 +1,34 @@
 // Reads settings and a log from standard input, and writes what `report` makes of them.
 #![tactic(auto)]
 
-use libc::{STDIN_FILENO, STDOUT_FILENO};
+ghost use Rattle.std.specs.Prelude.{◌≤◌, length, IfOk};
 
-fn main() {
+use std::io;
+use std::io::{Input, Print, Read};
+
+// Reads until the buffer is full or the input ends; how many bytes were read.
+fn read_full<R: Read>(reader: &mut R, buffer: &mut [u8]) -> io::Result<usize>
+    ensures { IfOk result (λ n. n ≤ length buffer.new) }
+{
+    let mut done = 0;
+    while done < buffer.len() {
+        let n = reader.read(&mut buffer[done..])?;
+        if n == 0 {
+            break;
+        }
+        done += n;
+    }
+    Ok(done)
+}
+
+fn main(rt: HostRuntime) -> io::Result<()> {
     // One byte more than is allowed, to see that there are more.
     let mut input = [0u8; report::MOST_INPUT + 1];
-    let n = io::read_full(STDIN_FILENO, &mut input);
+    let n = read_full(&mut rt.reader(), &mut input)?;
     let mut events = [0u8; report::LENT_EVENTS];
     let mut ends = [0u32; report::LENT_ENDS];
     let mut list = [0u16; report::LIST];
     let mut out = [0u8; report::OUT];
     let written = report::report(&input[..n], &mut events, &mut ends, &mut list, &mut out);
-    io::write_all(STDOUT_FILENO, &out[..written]);
+    rt.stdout().write_all(&out[..written])
 }
