@@ -2,7 +2,7 @@
  * Budgieleaf from C: a store of traces, the constraints (DECLARE templates) that hold over them, and a watcher that tells
  * while a trace grows which constraints still hold.
  *
- * Link with target/staticlib/libcapi.a, which `rt staticlib capi` makes (x86-64 Linux). The archive needs no other
+ * Link with target/staticlib/libcapi.a, which `tools/build` makes (x86-64 Linux). The archive needs no other
  * library, allocates nothing, keeps nothing between calls and prints nothing. Calls on different memory may run at the
  * same time.
  *

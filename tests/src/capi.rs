@@ -1,4 +1,4 @@
-//! The calls through the archive that `rt staticlib capi` makes. The declarations follow include/budgieleaf.h; nothing checks them
+//! The calls through the archive that `tools/build` makes. The declarations follow include/budgieleaf.h; nothing checks them
 //! against the Rattle source but these tests. Beside what a call answers, the wrappers look at each number that it must leave or
 //! set: a call that leaves or sets another ends the test at once.
 

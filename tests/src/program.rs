@@ -8,10 +8,10 @@ pub fn root() -> PathBuf {
     PathBuf::from(env!("CARGO_MANIFEST_DIR")).parent().unwrap().to_path_buf()
 }
 
-/// The program that `rt check findrules` builds.
+/// The program that `tools/build` builds.
 pub fn path() -> PathBuf {
     let path = root().join("target/bin/findrules");
-    assert!(path.is_file(), "{} is not there: build it with `rt check findrules`", path.display());
+    assert!(path.is_file(), "{} is not there: build it with `tools/build`", path.display());
     path
 }
 

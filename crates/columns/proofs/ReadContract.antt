@@ -2,12 +2,12 @@
 -- Assumes nothing.
 use Prim.Native.Nat.{ℕ, ◌+◌, ◌≤◌}
 use mathlib.Core.Path.{◌≡◌, sym, ap, ◌∙◌}
-use mathlib.Core.Bool.{true}
+use mathlib.Core.Bool.{true, false}
 use mathlib.Core.List.{List, [], ◌∷◌}
 use native.Mathlib.Omega.{arith}
 use lib.ListN.{length}
 use borrow.Author.Tests.{not-false}
-use Rattle.base.specs.Checks.{Reply, gives, reply}
+use Rattle.base.specs.Checks.{Reply, gives, refused, reply}
 use Rattle.base.proofs.Checks.{none_fail, none_fail_reply}
 use Rattle.eventlog.specs.Store.{Memory, memory, with_store, most_traces, sound, room}
 use Rattle.answers.specs.declared.CountAnswer.{CountAnswer}
@@ -28,6 +28,9 @@ module _ (m : Memory) (log : List ℕ) where
 
   abbrev surveyed : CountAnswer
   surveyed = survey_of (room m) (at_start (room m)) 1 (lines log)
+
+  pub unsound_replied : sound m ≡ false → refused 1 0 ≡ replied
+  unsound_replied h = rw h
 
   pub sound_replied : sound m ≡ true → count_said surveyed ≡ replied
   sound_replied h = rw h (survey_said m log h)
