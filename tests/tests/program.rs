@@ -3,8 +3,10 @@
 use budgieleaf_tests::gen;
 use budgieleaf_tests::oracle::columns::written;
 use budgieleaf_tests::oracle::findrules::output;
-use budgieleaf_tests::program::{compare, run};
+use budgieleaf_tests::program::{compare, path, root, run};
 use budgieleaf_tests::rng::{cases, Rng};
+use std::fs::{File, OpenOptions};
+use std::process::Command;
 
 /// Runs one input and says what it was answered: 0, or the refusal's number.
 fn check(name: &str, rng: &mut Rng, input: &[u8]) -> usize {
@@ -219,4 +221,17 @@ fn rows_of_document_01() {
     let long = |len| said(&[b"  11000\n".to_vec(), b"     1  0\n".repeat(len)].concat());
     assert!(long(4096).ends_with("     1\n 1  0       1\n 2  0       1\n 3  0       1\n 7  0       1\n 8  0       1\n"));
     assert_eq!(long(4097), " 7  4097\n");
+}
+
+/// A folder can be opened but not read, and /dev/full takes nothing: either ends the program with an error and no answer.
+#[test]
+fn a_failed_read_or_write_is_told() {
+    let read = Command::new(path()).stdin(File::open(root()).unwrap()).output().unwrap();
+    let input = File::open(root().join("samples/sample.txt")).unwrap();
+    let full = OpenOptions::new().write(true).open("/dev/full").unwrap();
+    let written = Command::new(path()).stdin(input).stdout(full).output().unwrap();
+    for ended in [read, written] {
+        assert!(ended.status.code() == Some(1) && ended.stdout.is_empty());
+        assert!(String::from_utf8(ended.stderr).unwrap().starts_with("Error: "));
+    }
 }
