@@ -2,9 +2,9 @@
  * Budgieleaf from C: a store of traces, the constraints (DECLARE templates) that hold over them, and a watcher that tells
  * while a trace grows which constraints still hold.
  *
- * Link with target/staticlib/libcapi.a, which `tools/build` makes (x86-64 Linux). The archive needs no other
- * library, allocates nothing, keeps nothing between calls and prints nothing. Calls on different memory may run at the
- * same time.
+ * Link with target/staticlib/libcapi.a, which `tools/build` makes (x86-64 Linux). The archive needs the C library's
+ * memset and nothing else, allocates nothing, keeps nothing between calls and prints nothing. Calls on different memory
+ * may run at the same time.
  *
  * Each function is proved against the contract in crates/capi/src/lib.rt. Nothing proves this header: it is written by
  * hand after that source.

@@ -1,12 +1,11 @@
 -- The list is that of the pass over the constraints, where every check passed.
 use mathlib.Core.Path.{◌≡◌, refl, sym, ◌∙◌}
 use mathlib.Core.Bool.{true}
-use Rattle.eventlog.specs.Store.{Memory, sound}
+use Rattle.eventlog.specs.Store.{Memory, sound, lent, kept}
 use Rattle.discovery.specs.Calls.{threshold_in_range}
 use Rattle.discovery.proofs.FindContract.{fits_told, Findable, finds_listed}
 use Rattle.std.proofs.Common.{ℕ, refl, ◌≡◌, true}
 use Rattle.base.specs.Lists.{count, non_empty}
-use Rattle.eventlog.specs.Store.{lent, kept}
 use Rattle.discovery.specs.declared.Settings.{Settings}
 use Rattle.discovery.proofs.find.Goals as goal
 

@@ -4,15 +4,13 @@ use mathlib.Core.List.{List, []}
 use lib.ListN.{length}
 use native.Mathlib.Omega.{arith}
 use mathlib.Core.Path.{sym}
-use Rattle.eventlog.specs.Store.{most_traces, Memory, last_end}
+use Rattle.eventlog.specs.Store.{most_traces, Memory, last_end, lent}
 use Rattle.base.proofs.Checks.{none_fail}
 use Rattle.eventlog.specs.Calls.{checks_of_add}
-use Rattle.eventlog.proofs.Adding.{add_passed}
+use Rattle.eventlog.proofs.Adding.{add_passed, AddPassed}
 use Rattle.eventlog.proofs.Laws.{last_end_bound}
 use Rattle.std.proofs.Common.{◌≡◌}
 use Rattle.base.specs.Checks.{gives, reply}
-use Rattle.eventlog.specs.Store.{lent}
-use Rattle.eventlog.proofs.Adding.{AddPassed}
 use Rattle.eventlog.proofs.append.Goals as goal
 
 -- what is known of a trace that is accepted

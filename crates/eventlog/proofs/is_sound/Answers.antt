@@ -6,12 +6,10 @@ use lib.Dec.{leb}
 use lib.ListN.{length, take}
 use lib.Seq.{length-take-le}
 use borrow.Author.Tests.{le-leb, lt-leb}
-use Rattle.eventlog.specs.Store.{Memory, declarable, sound, last_end, all_below}
+use Rattle.eventlog.specs.Store.{Memory, declarable, sound, last_end, all_below, rising, lent, most_traces}
 use Rattle.eventlog.proofs.Walks.{all_declared}
-use Rattle.std.proofs.Common.{ℕ, ◌<◌}
+use Rattle.std.proofs.Common.{ℕ, ◌<◌, eqb}
 use Rattle.eventlog.specs.Calls.{declared_front}
-use Rattle.std.proofs.Common.{eqb}
-use Rattle.eventlog.specs.Store.{rising, lent, most_traces}
 use Rattle.eventlog.proofs.is_sound.Goals.{then-traces-gt-MOST_TRACES-via-then-traces-gt-MOST_TRACES, then-traces-gt-MOST_TRACES-via-else-traces-gt-MOST_TRACES+then-ends-count}
 use Rattle.eventlog.proofs.is_sound.Goals as goal
 
@@ -41,6 +39,12 @@ record Tested (m : Memory) (rises : Bool) : Type 0 where
   pub has_ends : m.store.traces ≤ length m.ends
   pub read : rises ≡ rising 0 (take m.store.traces m.ends)
 
+tested :
+    {m : Memory} {in_range rises : Bool} → in_range ≡ declarable m.store.activities → in_range ≡ true → m.store.traces ≤ most_traces →
+    m.store.traces ≤ length m.ends → (told : Bool) → told ≡ rising 0 (take m.store.traces m.ends) → told ≡ rises → Tested m rises
+tested range passed few has_ends told read e =
+    record { in_range = sym passed ∙ range; few = few; has_ends = has_ends; read = sym e ∙ read }
+
 sound_by : (m : Memory) (rises : Bool) → Tested m rises → sound m ≡ left_to_test rises m
 unfolding sound
 sound_by m rises t = simp (← t.in_range, le-leb _ _ t.few, le-leb _ _ t.has_ends, ← t.read)
@@ -63,33 +67,18 @@ pub returns-then-not-ends_rise : goal.returns-then-not-ends_rise
 returns-then-not-ends_rise c =
     sym
     (sound_by (lent c.args.store c.args.events.now c.args.ends.now) false
-    (record {
-      in_range = sym c.if-not-declarable.false ∙ c.declarable.ensures;
-      few = c.if-traces-gt-MOST_TRACES.false;
-      has_ends = c.if-ends-count.false;
-      read = sym c.if-not-ends_rise.true ∙ c.ends_rise.ensures;
-    }))
+    (tested c.declarable.ensures c.if-not-declarable.false c.if-traces-gt-MOST_TRACES.false c.if-ends-count.false _ c.ends_rise.ensures c.if-not-ends_rise.true))
 
 pub returns-then-events-last : goal.returns-then-events-last
 unfolding last_end
 returns-then-events-last c =
     too_far (lent c.args.store c.args.events.now c.args.ends.now) c.last_end-last.result
-    (record {
-      in_range = sym c.if-not-declarable.false ∙ c.declarable.ensures;
-      few = c.if-traces-gt-MOST_TRACES.false;
-      has_ends = c.if-ends-count.false;
-      read = sym c.if-not-ends_rise.false ∙ c.ends_rise.ensures;
-    })
+    (tested c.declarable.ensures c.if-not-declarable.false c.if-traces-gt-MOST_TRACES.false c.if-ends-count.false _ c.ends_rise.ensures c.if-not-ends_rise.false)
     c.last_end-last.ensures c.if-events-last.true
 
 pub returns : goal.returns
 unfolding last_end
 returns c =
     by_events (lent c.args.store c.args.events.now c.args.ends.now) c.last_end-last.result c.declared_front.result
-    (record {
-      in_range = sym c.if-not-declarable.false ∙ c.declarable.ensures;
-      few = c.if-traces-gt-MOST_TRACES.false;
-      has_ends = c.if-ends-count.false;
-      read = sym c.if-not-ends_rise.false ∙ c.ends_rise.ensures;
-    })
+    (tested c.declarable.ensures c.if-not-declarable.false c.if-traces-gt-MOST_TRACES.false c.if-ends-count.false _ c.ends_rise.ensures c.if-not-ends_rise.false)
     c.last_end-last.ensures c.if-events-last.false c.declared_front.ensures

@@ -2,7 +2,6 @@
 use Prim.Native.Nat.{◌-◌, ◌*◌, ◌≤◌}
 use Rattle.report.specs.Print.{constraint_line_size}
 use Rattle.report.specs.Puts.{Puts, lines_of}
-use Rattle.report.specs.Puts.{Puts, lines_of}
 use Rattle.report.proofs.put_list.Given as goal
 
 abbrev pub invariant-loop-k : goal.invariant-loop-k

@@ -2,12 +2,11 @@ use Prim.Native.Nat.{ℕ}
 use mathlib.Core.Path.{◌≡◌, sym, ◌∙◌}
 use mathlib.Core.List.{List}
 use lib.ListN.{take, drop}
-use Rattle.fields.specs.Field.{field_of}
+use Rattle.fields.specs.Field.{field_of, line_feed}
 use Rattle.report.specs.Stages.{settings_of}
 use Rattle.report.proofs.Setting.{cut_short, no_line_feed, both_set, fields_set}
 use Rattle.std.proofs.Common.{ℕ, List, ◌≡◌, ◌≤◌, length, take, get_or, drop, eq-eqb}
 use borrow.Author.Tests.{ne_eqb}
-use Rattle.fields.specs.Field.{line_feed}
 use Rattle.report.proofs.read_settings.Goals.{then-input-lt8-via-then-input-lt8, then-input-lt8-via-else-input-lt8+then-input-ne-LINE_FEED}
 use Rattle.report.proofs.read_settings.Goals as goal
 

@@ -1,17 +1,15 @@
 use mathlib.Core.Path.{◌≡◌, refl, sym, ap₂, ◌∙◌}
 use native.Mathlib.Omega.{arith}
-use Rattle.eventlog.specs.Store.{Memory}
+use Rattle.eventlog.specs.Store.{Memory, lent, kept}
 use Rattle.eventlog.proofs.Laws.{sound_facts}
-use Rattle.discovery.specs.Question.{asked, meets, is_listed}
+use Rattle.discovery.specs.Question.{asked, meets, is_listed, fulfilments}
 use Rattle.discovery.proofs.list.Passing.{fulfilments_few, passes_unlisted, passes_listed}
 use Rattle.discovery.proofs.Listing.{few_numbers}
 use Rattle.std.proofs.Common.{Bool, ℕ}
 use Rattle.base.specs.Lists.{non_empty, filter}
 use Rattle.declare.specs.declared.constraints.Constraint.{Constraint}
 use Rattle.discovery.specs.declared.Measure.{Measure}
-use Rattle.discovery.specs.Question.{fulfilments}
 use Rattle.discovery.specs.Passes.{Measured}
-use Rattle.eventlog.specs.Store.{lent, kept}
 use Rattle.discovery.proofs.list.consider.Goals as goal
 
 -- whether the constraint is listed, by its count
