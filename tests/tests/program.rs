@@ -230,8 +230,9 @@ fn a_failed_read_or_write_is_told() {
     let input = File::open(root().join("samples/sample.txt")).unwrap();
     let full = OpenOptions::new().write(true).open("/dev/full").unwrap();
     let written = Command::new(path()).stdin(input).stdout(full).output().unwrap();
+    assert!(read.stdout.is_empty());
     for ended in [read, written] {
-        assert!(ended.status.code() == Some(1) && ended.stdout.is_empty());
+        assert_eq!(ended.status.code(), Some(1));
         assert!(String::from_utf8(ended.stderr).unwrap().starts_with("Error: "));
     }
 }
