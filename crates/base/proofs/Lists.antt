@@ -13,7 +13,9 @@ use borrow.Author.Tests.{eqb-true, eqb-false}
 use lib.Dec.{eqb, eqb-zero-suc, eqb-suc-suc}
 use lib.ListN.{length, take, drop, get_or, length-append}
 use lib.Seq.{slice, take-nil}
-use Rattle.std.specs.Prelude.{if◌then◌else◌}
+use Rattle.std.specs.Prelude.{if◌then◌else◌, Some, None}
+use Rattle.std.specs.List.{list_all, position, position_from}
+use Rattle.std.proofs.lemmas.Iterator.Adapters.{position_from-zero}
 use Rattle.base.specs.Lists.{filter, count, all, find_index, range, flat_map, equal_lists}
 use Rattle.base.proofs.Bools.{and_left, and_right, and_both, either}
 
@@ -132,6 +134,28 @@ module _ {ℓ} {A : Type ℓ} (p : A → Bool) where
       go true passes k h e later = (omega arith, passes)
       go false fails zero h e later = absurd (true≢false (sym e ∙ fails))
       go false fails (suc k) h e later = let found = later k (omega arith) e in (omega (arith, found.0), found.1)
+
+module _ {A : Type 0} (p : A → Bool) where
+  -- the library's `position` of the first that does not pass, by this index
+  place_from :
+      (i : ℕ) (xs : List A) →
+      position_from (λ x. not (p x)) i xs ≡ cond (list_all p xs) None (Some (i + find_index (λ x. not (p x)) xs))
+  place_from i [] = refl
+  place_from i (x ∷ xs) = go (p x) (place_from (i + 1) xs)
+    where
+      go :
+          (t : Bool) →
+          position_from (λ x. not (p x)) (i + 1) xs ≡ cond (list_all p xs) None (Some (i + 1 + find_index (λ x. not (p x)) xs)) →
+          cond (not t) (Some i) (position_from (λ x. not (p x)) (i + 1) xs)
+          ≡ cond (t && list_all p xs) None (Some (i + (if not t then 0 else suc (find_index (λ x. not (p x)) xs))))
+      go true h = h ∙ ap (λ k. cond (list_all p xs) None (Some k)) (omega arith)
+      go false h = ap Some (omega arith)
+
+  pub position_by_index :
+      (xs : List A) → position (λ x. not (p x)) xs ≡ cond (list_all p xs) None (Some (find_index (λ x. not (p x)) xs))
+  position_by_index xs =
+      position_from-zero (λ x. not (p x)) xs ∙ place_from 0 xs
+      ∙ ap (λ k. cond (list_all p xs) None (Some k)) (zero-add (find_index (λ x. not (p x)) xs))
 
 -- ## Filter
 

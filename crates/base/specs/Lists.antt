@@ -1,4 +1,5 @@
--- Lists: non_empty, filter, count, all, find index, range, flat map, equality. (The library's filter and count go by decisions, not by tests.)
+-- Lists: non_empty, filter, count, all, find index, range, flat map, equality. `filter` and `all` are for lists of any level; for the lists
+-- of this repository they compute to the library's `filter` and `list_all`, in whose names the crates above speak.
 -- Assumes nothing.
 use Rattle.std.specs.Prelude.{ℕ, zero, suc, Bool, true, false, ◌&&◌, List, [], ◌∷◌, ◌++◌, length, cond}
 
