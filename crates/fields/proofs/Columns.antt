@@ -3,14 +3,14 @@
 use Prim.Native.Nat.{ℕ, zero, suc, ◌+◌, ◌-◌, ◌/◌, ◌%◌, ◌≤◌, ◌<◌}
 use native.Mathlib.Omega.{arith}
 use mathlib.Core.Path.{◌≡◌, refl, sym, ap, ◌∙◌}
-use mathlib.Core.List.{List, ◌∷◌, ◌++◌, append_assoc}
+use mathlib.Core.List.{List, ◌++◌, append_assoc}
 use borrow.Author.Tests.{leb-true, leb-false, ne_eqb}
 use lib.Dec.{leb}
-use lib.ListN.{length, take, drop, set, replicate, length-drop, replicate-append-replicate}
-use lib.Seq.{append_snoc, set_split, drop_at, length-take-le, drop-drop, sets, sets-eq}
+use lib.ListN.{length, take, drop, replicate, length-drop, replicate-append-replicate}
+use lib.Seq.{length-take-le, drop-drop, sets, sets-eq}
 use Rattle.base.proofs.Bools.{either}
 use Rattle.fields.specs.Field.{blank, spell}
-use Rattle.fields.specs.Columns.{column_of, columns}
+use Rattle.fields.specs.Columns.{columns}
 use Rattle.fields.proofs.Fields.{spell_step}
 
 -- nothing left: blanks
@@ -34,17 +34,6 @@ columns_spell (suc width) n =
     let short : n < 10 = leb-false 10 n q in
     let none : n / 10 ≡ 0 = omega arith in
     rw (q, none, columns_blank width)))
-
--- the store of a column leaves those before it to be stored
-pub column_stored :
-    (field : List ℕ) (left byte n : ℕ) → 0 < left → left ≤ length field →
-    columns (left - 1) (column_of n) (n / 10) ++ drop (left - 1) (set field (left - 1) byte) ≡ columns left byte n ++ drop left field
-column_stored field zero byte n some fits = absurd (omega arith)
-column_stored field (suc left) byte n some fits =
-    let e : suc left - 1 ≡ left = omega arith in
-    let others = columns left (column_of n) (n / 10) in
-    rw (e, set_split field left byte (omega arith), drop_at (take left field) (byte ∷ drop (suc left) field) left (length-take-le left field (omega arith)))
-    (sym (append_snoc others byte (drop (suc left) field)))
 
 -- a part of a slice that is filled with the text of its width: that text is stored there
 pub part_filled :

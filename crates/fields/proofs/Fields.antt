@@ -11,11 +11,10 @@ use native.Mathlib.Nat.{sub-zero, zero-mul, zero-add, pow-suc, mul_assoc, one-le
 use lib.Dec.{eqb, leb}
 use lib.ListN.{length, take, drop, replicate, length-append, length-replicate, length-reverse, take-append-drop}
 use borrow.Author.Tests.{le-leb, lt-leb, leb-true, leb-false, eqb-true, eqb-false}
-use Rattle.std.specs.Prelude.{if◌then◌else◌}
-use Rattle.fields.specs.declared.Field.{Field}
+use Rattle.std.specs.Prelude.{Some, None, if◌then◌else◌}
 use Rattle.fields.specs.declared.Scan.{Scan}
 use Rattle.fields.specs.declared.Scan.TheVariants.{Blanks}
-use Rattle.fields.specs.Field.{blank, is_digit, all_digits, numeral, well_formed, digit, value, digits_of, spell, widest, field_of}
+use Rattle.fields.specs.Field.{blank, is_digit, all_digits, numeral, well_formed, digit, value, widest, field_of, digits_of, spell}
 use Rattle.fields.specs.Scan.{scan_byte, scanned, so_far, finish, are_blanks, reached, RunningValue}
 use Rattle.base.proofs.Lists.{all_last, from_last}
 use Rattle.base.proofs.Ranges.{inside, range_facts}
@@ -331,7 +330,7 @@ reached_value field k formed =
     (λ q. rw (p, q))
     (λ q. clash formed (rw (take-append-drop k field) at (stays_broken front (drop k field) p q))))
 
-reached_field : (field : List ℕ) → finish (reached field) ≡ (if well_formed field then Field.Number (value field) else Field.Malformed)
+reached_field : (field : List ℕ) → finish (reached field) ≡ (if well_formed field then Some (value field) else None)
 reached_field field =
     either (are_blanks field)
     (λ p. rw (p, blanks_unformed field p))
@@ -365,5 +364,5 @@ running_value =
 pub reached_is_field : (bytes : List ℕ) → length bytes ≤ widest → finish (reached bytes) ≡ field_of bytes
 reached_is_field bytes h = rw (le-leb (length bytes) 9 h) (reached_field bytes)
 
-pub too_wide : (bytes : List ℕ) → widest < length bytes → field_of bytes ≡ Field.Malformed
+pub too_wide : (bytes : List ℕ) → widest < length bytes → field_of bytes ≡ None
 too_wide bytes h = rw (lt-leb (length bytes) 9 h)

@@ -1,9 +1,8 @@
 -- Fields of columns: decimal, right-justified, filled with blanks, without leading zeros.
 -- Assumes nothing.
-use Rattle.std.specs.Prelude.{ℕ, zero, suc, ◌+◌, ◌-◌, ◌*◌, ◌/◌, ◌%◌, ◌^◌, Bool, false, not, ◌&&◌, List, [], ◌∷◌, ◌++◌, reverse, eqb, leb, length, replicate, if◌then◌else◌}
+use Rattle.std.specs.Prelude.{ℕ, zero, suc, ◌+◌, ◌-◌, ◌*◌, ◌/◌, ◌%◌, ◌^◌, Bool, false, not, ◌&&◌, List, [], ◌∷◌, ◌++◌, reverse, eqb, leb, length, replicate, Option, Some, None, if◌then◌else◌}
 use Rattle.base.specs.Logic.{in_range}
-use Rattle.base.specs.Lists.{all}
-use Rattle.fields.specs.declared.Field.{Field}
+use Rattle.std.specs.List.{list_all}
 
 abbrev pub blank : ℕ
 blank = 32
@@ -15,7 +14,7 @@ abbrev pub is_digit : ℕ → Bool
 is_digit byte = in_range 48 byte 57
 
 abbrev pub all_digits : List ℕ → Bool
-all_digits bytes = all is_digit bytes
+all_digits bytes = list_all is_digit bytes
 
 -- a decimal number without leading zeros: zero is one digit
 abbrev pub numeral : List ℕ → Bool
@@ -42,9 +41,9 @@ abbrev pub widest : ℕ
 widest = 9
 
 -- what a field holds; one wider than that is malformed for the code's sake
-abbrev pub field_of : List ℕ → Field
+abbrev pub field_of : List ℕ → Option ℕ
 field_of bytes =
-    if leb (length bytes) widest && well_formed bytes then Field.Number (value bytes) else Field.Malformed
+    if leb (length bytes) widest && well_formed bytes then Some (value bytes) else None
 
 -- the digits of a number, the lowest first, at most `most` of them
 abbrev pub digits_of : ℕ → ℕ → List ℕ

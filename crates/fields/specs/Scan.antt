@@ -1,9 +1,8 @@
 -- How the code reads a field, from the left with the value so far, and what is claimed of that value.
 -- Assumes nothing.
-use Rattle.std.specs.Prelude.{ℕ, ◌+◌, ◌-◌, ◌*◌, ◌≡◌, Bool, true, ◌&&◌, eqb, leb, take, if◌then◌else◌}
+use Rattle.std.specs.Prelude.{ℕ, ◌+◌, ◌-◌, ◌*◌, ◌≡◌, Bool, true, ◌&&◌, eqb, leb, take, Option, Some, None, if◌then◌else◌}
 use mathlib.Core.List.{List, foldl}
-use Rattle.base.specs.Lists.{all}
-use Rattle.fields.specs.declared.Field.{Field}
+use Rattle.std.specs.List.{list_all}
 use Rattle.fields.specs.declared.Scan.{Scan}
 use Rattle.fields.specs.declared.Scan.TheVariants.{Blanks, Digits, Broken}
 use Rattle.fields.specs.Field.{blank, is_digit, well_formed, value}
@@ -26,13 +25,13 @@ so_far Blanks = 0
 so_far (Digits n) = n
 so_far Broken = 0
 
-abbrev pub finish : Scan → Field
-finish Blanks = Field.Malformed
-finish (Digits n) = Field.Number n
-finish Broken = Field.Malformed
+abbrev pub finish : Scan → Option ℕ
+finish Blanks = None
+finish (Digits n) = Some n
+finish Broken = None
 
 abbrev pub are_blanks : List ℕ → Bool
-are_blanks columns = all (λ byte. eqb byte blank) columns
+are_blanks columns = list_all (λ byte. eqb byte blank) columns
 
 -- how far a field is read after some columns, by the digits among them and their places; the invariant of the loop of `read_field`
 abbrev pub reached : List ℕ → Scan
@@ -51,4 +50,4 @@ pub record RunningValue : Type 0 where
       (field : List ℕ) (k : ℕ) → well_formed field ≡ true → are_blanks (take k field) ≡ true → so_far (scanned (take k field)) ≡ 0
   -- "Accepted fields, values and refusals are those of before": accepted are the well_formed ones, each with its value
   pub as_before :
-      (field : List ℕ) → finish (scanned field) ≡ (if well_formed field then Field.Number (value field) else Field.Malformed)
+      (field : List ℕ) → finish (scanned field) ≡ (if well_formed field then Some (value field) else None)
