@@ -11,7 +11,8 @@ use borrow.Author.Tests.{eqb-true, eqb-false}
 use lib.Dec.{eqb}
 use lib.ListN.{get_or}
 use Rattle.std.specs.Prelude.{if◌then◌else◌}
-use Rattle.base.specs.Lists.{all, range, equal_lists}
+use Rattle.std.specs.List.{list_all}
+use Rattle.base.specs.Lists.{range, equal_lists}
 use Rattle.base.proofs.Bools.{equal_same, and_left, and_right, either}
 use Rattle.base.proofs.Lists.{equal_lists_same, all_range, range_at}
 use Rattle.declare.specs.declared.Verdict.{Verdict}
@@ -76,10 +77,10 @@ leads places p letter = among (onward p letter) places
 
 -- the verdicts are right, and each letter leads on
 abbrev fine : List Place → Place → Bool
-fine places p = (all (right p) (range 1 24) && all (telling p) (range 1 24)) && all (leads places p) (range 0 3)
+fine places p = (list_all (right p) (range 1 24) && list_all (telling p) (range 1 24)) && list_all (leads places p) (range 0 3)
 
 abbrev closed : List Place → Bool
-closed places = among at_first places && all (fine places) places
+closed places = among at_first places && list_all (fine places) places
 
 unfoldable places : List Place
 unfolding next_of
@@ -102,11 +103,11 @@ same_equal p q h =
     λ i. record { key = k i; states = s i; flags = f i }
 
 -- what passes at each place of a list passes at one among them
-passed : (test : Place → Bool) (p : Place) (ps : List Place) → all test ps ≡ true → among p ps ≡ true → test p ≡ true
+passed : (test : Place → Bool) (p : Place) (ps : List Place) → list_all test ps ≡ true → among p ps ≡ true → test p ≡ true
 passed test p [] h m = absurd (false≢true m)
 passed test p (q ∷ ps) h m =
-    either (same p q) (λ e. subst (λ r. test r ≡ true) (sym (same_equal p q e)) (and_left (test q) (all test ps) h))
-    (λ e. passed test p ps (and_right (test q) (all test ps) h) (rw e at m))
+    either (same p q) (λ e. subst (λ r. test r ≡ true) (sym (same_equal p q e)) (and_left (test q) (list_all test ps) h))
+    (λ e. passed test p ps (and_right (test q) (list_all test ps) h) (rw e at m))
 
 -- ## Verdicts and letters
 
@@ -137,12 +138,12 @@ letter_says a b x apart = go (eqb x a) (eqb x b) refl refl
 -- ## The agreement
 
 module _ (p : Place) (found : among p places ≡ true) where
-  is_fine : (all (right p) (range 1 24) ≡ true) × (all (telling p) (range 1 24) ≡ true) × (all (leads places p) (range 0 3) ≡ true)
+  is_fine : (list_all (right p) (range 1 24) ≡ true) × (list_all (telling p) (range 1 24) ≡ true) × (list_all (leads places p) (range 0 3) ≡ true)
   is_fine =
-      let All-right = all (right p) (range 1 24) in
-      let all_tell = all (telling p) (range 1 24) in
-      let all_lead = all (leads places p) (range 0 3) in
-      let h = passed (fine places) p places (and_right (among at_first places) (all (fine places) places) places_closed) found in
+      let All-right = list_all (right p) (range 1 24) in
+      let all_tell = list_all (telling p) (range 1 24) in
+      let all_lead = list_all (leads places p) (range 0 3) in
+      let h = passed (fine places) p places (and_right (among at_first places) (list_all (fine places) places) places_closed) found in
       let both = and_left (All-right && all_tell) all_lead h in
       (and_left All-right all_tell both, and_right All-right all_tell both, and_right (All-right && all_tell) all_lead h)
 

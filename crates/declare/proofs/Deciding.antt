@@ -11,7 +11,7 @@ use lib.Dec.{eqb, leb, leb-suc-suc, leb-zero}
 use lib.ListN.{get_or, get_or-map}
 use Rattle.std.specs.Prelude.{if◌then◌else◌}
 use Rattle.base.specs.Logic.{◌implies◌}
-use Rattle.declare.specs.Meaning.{Test, Meaning, each_on, some, occurs, times, starts_with, ends_with, precedence, alternate_precedence, chain_precedence, meanings, never, holds, activated, verdict}
+use Rattle.declare.specs.Meaning.{Test, Meaning, each_on, each, some, occurs, times, starts_with, ends_with, response, alternate_response, chain_response, precedence, alternate_precedence, chain_precedence, meanings, never, holds, activated, verdict}
 use Rattle.declare.proofs.Summary.{Summary, no_event_yet, stepped, stepped_all, answers, answer, summed}
 use Rattle.base.proofs.Bools.{Expression, agree, by_cases}
 use Rattle.declare.proofs.Places.{occurs_on, occurs_snoc, ends_snoc, b_before_a, unanswered, b_before_a_cons, unanswered_snoc}
@@ -41,34 +41,45 @@ seen_after = occurred (λ s. s.seen) (λ s. s.b) (λ s x. refl) (λ s x. refl)
 abbrev at_each : ℕ → (List ℕ → Bool) → Test
 at_each a p before x after = eqb x a implies p after
 
-owed_after : (s : Summary) (before trace : List ℕ)
-    → not (stepped_all s trace).owed ≡ (s.owed implies occurs s.b trace) && each_on before trace (at_each s.a (occurs s.b))
+-- One law for the five: `fine` has no a whose test has failed, `waits` has one whose test is still to come, and `read` is read off at the end.
+module _ (test : Meaning) (fine waits read : Summary → Bool)
+    (at_end : (s : Summary) → read s ≡ fine s && ((waits s implies test s.a s.b []) && true))
+    (keeps : (s : Summary) (x : ℕ) (trace : List ℕ) (rest : Bool)
+    → fine (stepped s x) && ((waits (stepped s x) implies test s.a s.b trace) && rest)
+    ≡ fine s && ((waits s implies test s.a s.b (x ∷ trace)) && ((eqb x s.a implies test s.a s.b trace) && rest))) where
+  each_after : (s : Summary) (before trace : List ℕ)
+      → read (stepped_all s trace) ≡ fine s && ((waits s implies test s.a s.b trace) && each_on before trace (at_each s.a (test s.a s.b)))
+  each_after s before [] = at_end s
+  each_after s before (x ∷ trace) =
+      each_after (stepped s x) (before ++ (x ∷ [])) trace
+      ∙ keeps s x trace (each_on (before ++ (x ∷ [])) trace (at_each s.a (test s.a s.b)))
+
+owed_after : (a b : ℕ) (trace : List ℕ) → not (stepped_all (no_event_yet a b) trace).owed ≡ response a b trace
 unfolding agree
-owed_after s before [] = by_cases 1 (λ p. not p) (λ p. (p implies false) && true) refl s.owed
-owed_after s before (x ∷ trace) =
+owed_after a b trace =
+    each_after (λ a b. occurs b) (λ s. true) (λ s. s.owed) (λ s. not s.owed)
+    (λ s. by_cases 1 (λ o. not o) (λ o. (o implies false) && true) refl s.owed)
+    (λ s x trace rest.
     rw (occurs_on s.b (x ∷ []) trace)
-    (owed_after (stepped s x) (before ++ (x ∷ [])) trace
-    ∙ by_cases 5 (λ o is_a is_b h e. ((is_a || (o && not is_b)) implies h) && e)
+    (by_cases 5 (λ o is_a is_b h e. ((is_a || (o && not is_b)) implies h) && e)
     (λ o is_a is_b h e. (o implies (is_b || h)) && ((is_a implies h) && e))
     refl
     s.owed
     (eqb x s.a)
     (eqb x s.b)
     (occurs s.b trace)
-    (each_on (before ++ (x ∷ [])) trace (at_each s.a (occurs s.b))))
+    rest))
+    (no_event_yet a b) [] trace
 
-alternate_after : (s : Summary) (before trace : List ℕ)
-    → not (stepped_all s trace).owed && not (stepped_all s trace).doubled
-    ≡ not s.doubled
-    && ((s.owed implies some trace (b_before_a s.a s.b))
-    && each_on before trace (at_each s.a (λ after. some after (b_before_a s.a s.b))))
+alternate_after : (a b : ℕ) (trace : List ℕ)
+    → not (stepped_all (no_event_yet a b) trace).owed && not (stepped_all (no_event_yet a b) trace).doubled ≡ alternate_response a b trace
 unfolding agree
-alternate_after s before [] =
-    by_cases 2 (λ o d. not o && not d) (λ o d. not d && ((o implies false) && true)) refl s.owed s.doubled
-alternate_after s before (x ∷ trace) =
+alternate_after a b trace =
+    each_after (λ a b after. some after (b_before_a a b)) (λ s. not s.doubled) (λ s. s.owed) (λ s. not s.owed && not s.doubled)
+    (λ s. by_cases 2 (λ o d. not o && not d) (λ o d. not d && ((o implies false) && true)) refl s.owed s.doubled)
+    (λ s x trace rest.
     rw (b_before_a_cons s.a s.b x trace)
-    (alternate_after (stepped s x) (before ++ (x ∷ [])) trace
-    ∙ by_cases 6 (λ d o is_a is_b h e. not (d || (is_a && (o && not is_b))) && (((is_a || (o && not is_b)) implies h) && e))
+    (by_cases 6 (λ d o is_a is_b h e. not (d || (is_a && (o && not is_b))) && (((is_a || (o && not is_b)) implies h) && e))
     (λ d o is_a is_b h e. not d && ((o implies (is_b || (not is_a && h))) && ((is_a implies h) && e)))
     refl
     s.doubled
@@ -76,17 +87,17 @@ alternate_after s before (x ∷ trace) =
     (eqb x s.a)
     (eqb x s.b)
     (some trace (b_before_a s.a s.b))
-    (each_on (before ++ (x ∷ [])) trace (at_each s.a (λ after. some after (b_before_a s.a s.b)))))
+    rest))
+    (no_event_yet a b) [] trace
 
-chain_after : (s : Summary) (before trace : List ℕ)
-    → not (stepped_all s trace).missed && not (stepped_all s trace).last
-    ≡ not s.missed && ((s.last implies starts_with s.b trace) && each_on before trace (at_each s.a (starts_with s.b)))
+chain_after : (a b : ℕ) (trace : List ℕ)
+    → not (stepped_all (no_event_yet a b) trace).missed && not (stepped_all (no_event_yet a b) trace).last ≡ chain_response a b trace
 unfolding agree
-chain_after s before [] =
-    by_cases 2 (λ m l. not m && not l) (λ m l. not m && ((l implies false) && true)) refl s.missed s.last
-chain_after s before (x ∷ trace) =
-    chain_after (stepped s x) (before ++ (x ∷ [])) trace
-    ∙ by_cases 6 (λ m l is_a is_b h e. not (m || (l && not is_b)) && ((is_a implies h) && e))
+chain_after a b trace =
+    each_after (λ a b. starts_with b) (λ s. not s.missed) (λ s. s.last) (λ s. not s.missed && not s.last)
+    (λ s. by_cases 2 (λ m l. not m && not l) (λ m l. not m && ((l implies false) && true)) refl s.missed s.last)
+    (λ s x trace rest.
+    by_cases 6 (λ m l is_a is_b h e. not (m || (l && not is_b)) && ((is_a implies h) && e))
     (λ m l is_a is_b h e. not m && ((l implies is_b) && ((is_a implies h) && e)))
     refl
     s.missed
@@ -94,18 +105,18 @@ chain_after s before (x ∷ trace) =
     (eqb x s.a)
     (eqb x s.b)
     (starts_with s.b trace)
-    (each_on (before ++ (x ∷ [])) trace (at_each s.a (starts_with s.b)))
+    rest)
+    (no_event_yet a b) [] trace
 
-later_after : (s : Summary) (before trace : List ℕ)
-    → not (stepped_all s trace).later
-    ≡ not s.later
-    && ((s.one implies not (occurs s.b trace)) && each_on before trace (at_each s.a (λ after. not (occurs s.b after))))
+later_after : (a b : ℕ) (trace : List ℕ)
+    → not (stepped_all (no_event_yet a b) trace).later ≡ each trace (at_each a (λ after. not (occurs b after)))
 unfolding agree
-later_after s before [] = by_cases 2 (λ l o. not l) (λ l o. not l && ((o implies true) && true)) refl s.later s.one
-later_after s before (x ∷ trace) =
+later_after a b trace =
+    each_after (λ a b after. not (occurs b after)) (λ s. not s.later) (λ s. s.one) (λ s. not s.later)
+    (λ s. by_cases 2 (λ l o. not l) (λ l o. not l && ((o implies true) && true)) refl s.later s.one)
+    (λ s x trace rest.
     rw (occurs_on s.b (x ∷ []) trace)
-    (later_after (stepped s x) (before ++ (x ∷ [])) trace
-    ∙ by_cases 6 (λ l o is_a is_b h e. not (l || (is_b && o)) && (((o || is_a) implies not h) && e))
+    (by_cases 6 (λ l o is_a is_b h e. not (l || (is_b && o)) && (((o || is_a) implies not h) && e))
     (λ l o is_a is_b h e. not l && ((o implies not (is_b || h)) && ((is_a implies not h) && e)))
     refl
     s.later
@@ -113,17 +124,17 @@ later_after s before (x ∷ trace) =
     (eqb x s.a)
     (eqb x s.b)
     (occurs s.b trace)
-    (each_on (before ++ (x ∷ [])) trace (at_each s.a (λ after. not (occurs s.b after)))))
+    rest))
+    (no_event_yet a b) [] trace
 
-next_after : (s : Summary) (before trace : List ℕ)
-    → not (stepped_all s trace).next
-    ≡ not s.next
-    && ((s.last implies not (starts_with s.b trace)) && each_on before trace (at_each s.a (λ after. not (starts_with s.b after))))
+next_after : (a b : ℕ) (trace : List ℕ)
+    → not (stepped_all (no_event_yet a b) trace).next ≡ each trace (at_each a (λ after. not (starts_with b after)))
 unfolding agree
-next_after s before [] = by_cases 2 (λ n l. not n) (λ n l. not n && ((l implies true) && true)) refl s.next s.last
-next_after s before (x ∷ trace) =
-    next_after (stepped s x) (before ++ (x ∷ [])) trace
-    ∙ by_cases 6 (λ n l is_a is_b h e. not (n || (is_b && l)) && ((is_a implies not h) && e))
+next_after a b trace =
+    each_after (λ a b after. not (starts_with b after)) (λ s. not s.next) (λ s. s.last) (λ s. not s.next)
+    (λ s. by_cases 2 (λ n l. not n) (λ n l. not n && ((l implies true) && true)) refl s.next s.last)
+    (λ s x trace rest.
+    by_cases 6 (λ n l is_a is_b h e. not (n || (is_b && l)) && ((is_a implies not h) && e))
     (λ n l is_a is_b h e. not n && ((l implies not is_b) && ((is_a implies not h) && e)))
     refl
     s.next
@@ -131,7 +142,8 @@ next_after s before (x ∷ trace) =
     (eqb x s.a)
     (eqb x s.b)
     (starts_with s.b trace)
-    (each_on (before ++ (x ∷ [])) trace (at_each s.a (λ after. not (starts_with s.b after))))
+    rest)
+    (no_event_yet a b) [] trace
 
 -- ## Each b, and what came before it
 
@@ -283,17 +295,17 @@ module _ (a b : ℕ) (trace : List ℕ) where
       then occurring (λ p q. (p && q) || not (p || q)) (λ p q. if p then q else not q) refl
       then occurring (λ p q. not (p && q)) (λ p q. not (p && q)) refl
       then occurring (λ p q. not p || q) (λ p q. p implies q) refl
-      then owed_after s [] trace
-      then alternate_after s [] trace
-      then chain_after s [] trace
+      then owed_after a b trace
+      then alternate_after a b trace
+      then chain_after a b trace
       then early_after a b trace
       then bare_after a b trace
       then loose_after a b trace
-      then ap₂ ◌&&◌ (owed_after s [] trace) (early_after a b trace)
-      then ap₂ ◌&&◌ (alternate_after s [] trace) (bare_after a b trace)
-      then ap₂ ◌&&◌ (chain_after s [] trace) (loose_after a b trace)
-      then later_after s [] trace
-      then next_after s [] trace
+      then ap₂ ◌&&◌ (owed_after a b trace) (early_after a b trace)
+      then ap₂ ◌&&◌ (alternate_after a b trace) (bare_after a b trace)
+      then ap₂ ◌&&◌ (chain_after a b trace) (loose_after a b trace)
+      then later_after a b trace
+      then next_after a b trace
       then refl
 
   answer_right : (template : ℕ) → answer end template ≡ holds template a b trace

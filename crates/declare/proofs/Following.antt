@@ -8,21 +8,16 @@ use mathlib.Core.List.{List, [], ◌∷◌, ◌++◌, map}
 use borrow.Author.Tests.{leb-true, lt-ltb, ltb-true, eqb-true, not-true, ne_eqb}
 use lib.Dec.{eqb, leb, ltb}
 use lib.ListN.{get_or}
-use Rattle.base.specs.Lists.{all, range}
+use Rattle.std.specs.List.{list_all}
+use Rattle.base.specs.Lists.{range}
 use Rattle.base.proofs.Lists.{all_weaker, range_at}
 use Rattle.base.proofs.Bools.{and_left, and_right, either, clash}
-use Rattle.declare.specs.declared.Replayer.{Replayer}
 use Rattle.declare.specs.declared.constraints.Constraint.{Constraint}
 use Rattle.declare.specs.Meaning.{meanings, holds, activated, verdict}
-use Rattle.declare.specs.Automata.{next_of, verdict_of, letter, follow, stands, automaton, moves_of, start, advance, advance_all, verdict_by}
+use Rattle.declare.specs.Automata.{next_of, verdict_of, letter, follow, stands, automaton, moves_of, start, advance_all, verdict_by}
 use Rattle.declare.specs.Constraints.{pairs, Over}
 use Rattle.declare.proofs.Agreement.{follow_right, follow_holds}
 use Rattle.declare.proofs.Shifting.{shifted}
-
--- one event more
-pub advance_snoc : (moves : List ℕ) (r : Replayer) (trace : List ℕ) (x : ℕ) → advance_all moves r (trace ++ (x ∷ [])) ≡ advance moves (advance_all moves r trace) x
-advance_snoc moves r [] x = refl
-advance_snoc moves r (y ∷ trace) x = advance_snoc moves (advance moves r y) trace x
 
 -- what is the same for templates 1 to 8
 up_to_8 : {A : Type 0} (f g : ℕ → A) → map f (range 0 9) ≡ map g (range 0 9) → (template : ℕ) → template ≤ 8 → f template ≡ g template
@@ -52,10 +47,10 @@ follow_append template a b k [] more = refl
 follow_append template a b k (x ∷ trace) more = follow_append template a b (next_of template k (letter a b x)) trace more
 
 -- a beside itself is as a beside what no event is
-beside_none : (template n a k : ℕ) (trace : List ℕ) → all (λ x. ltb x n) trace ≡ true → follow template a a k trace ≡ follow template a n k trace
+beside_none : (template n a k : ℕ) (trace : List ℕ) → list_all (λ x. ltb x n) trace ≡ true → follow template a a k trace ≡ follow template a n k trace
 beside_none template n a k [] within = refl
 beside_none template n a k (x ∷ trace) within =
-    let rest = all (λ x. ltb x n) trace in
+    let rest = list_all (λ x. ltb x n) trace in
     let small = ltb-true x n (and_left (ltb x n) rest within) in
     ap (λ l. follow template a a (next_of template k l) trace) (same_letter small (eqb x a) refl)
     ∙ beside_none template n a (next_of template k (letter a n x)) trace (and_right (ltb x n) rest within)
@@ -70,7 +65,7 @@ module _ {A : Type 0} (read : ℕ → ℕ → A) (meant : ℕ → ℕ → ℕ �
     (apart : (template a b : ℕ) → 1 ≤ template → template ≤ 24 → eqb a b ≡ false → (trace : List ℕ)
     → read template (follow template a b 0 trace) ≡ meant template a b trace)
     (alone : (template a b c : ℕ) (trace : List ℕ) → template ≤ 8 → meant template a b trace ≡ meant template a c trace) where
-  of_constraint : (n : ℕ) (c : Constraint) → Over n c → (trace : List ℕ) → all (λ x. ltb x n) trace ≡ true
+  of_constraint : (n : ℕ) (c : Constraint) → Over n c → (trace : List ℕ) → list_all (λ x. ltb x n) trace ≡ true
       → read c.template (follow c.template c.a c.b 0 trace) ≡ meant c.template c.a c.b trace
   of_constraint n c over trace within =
       either (eqb c.a c.b)
@@ -81,7 +76,7 @@ module _ {A : Type 0} (read : ℕ → ℕ → A) (meant : ℕ → ℕ → ℕ �
       ∙ alone c.template c.a n c.b trace (low c.template c.a c.b over.paired e))
       (λ e. apart c.template c.a c.b over.from_1 over.to_24 e trace)
 
-module _ (n : ℕ) (c : Constraint) (over : Over n c) (trace : List ℕ) (within : all (λ x. ltb x n) trace ≡ true) where
+module _ (n : ℕ) (c : Constraint) (over : Over n c) (trace : List ℕ) (within : list_all (λ x. ltb x n) trace ≡ true) where
   -- by the tables, the state that a trace leads to tells whether a constraint over n activities holds
   pub follow_holds_constraint :
       stands (verdict_of c.template (follow c.template c.a c.b 0 trace)) ≡ holds c.template c.a c.b trace

@@ -10,7 +10,8 @@ use lib.Dec.{eqb, ltb}
 use lib.ListN.{get_or, set, replicate, length, length-set, get_or-replicate}
 use lib.Seq.{get_or-set_same, get_or-set_other}
 use Rattle.std.specs.Prelude.{if◌then◌else◌}
-use Rattle.base.specs.Lists.{all, range}
+use Rattle.std.specs.List.{list_all}
+use Rattle.base.specs.Lists.{range}
 use Rattle.base.proofs.Lists.{all_range}
 use Rattle.base.proofs.Bools.{and_left, and_right, either}
 use Rattle.declare.specs.declared.Automaton.{Automaton}
@@ -22,10 +23,10 @@ use Rattle.declare.proofs.Agreement.{letter_small}
 -- ## The words
 
 -- what passes at each state of each template
-pub at_every_state : (p : ℕ → ℕ → Bool) → all (λ t. all (p t) (range 0 8)) (range 1 24) ≡ true
+pub at_every_state : (p : ℕ → ℕ → Bool) → list_all (λ t. list_all (p t) (range 0 8)) (range 1 24) ≡ true
     → (template k : ℕ) → 1 ≤ template → template ≤ 24 → k < 8 → p template k ≡ true
 at_every_state p h template k low high small =
-    all_range (p template) 0 8 k (all_range (λ t. all (p t) (range 0 8)) 1 24 template h low (omega arith)) (omega arith) small
+    all_range (p template) 0 8 k (all_range (λ t. list_all (p t) (range 0 8)) 1 24 template h low (omega arith)) (omega arith) small
 
 -- what a letter's number, shifted by eight times a state's number, leaves as the next shift
 abbrev shift_after : ℕ → ℕ → ℕ
@@ -35,14 +36,14 @@ abbrev moves_right : ℕ → ℕ → ℕ → Bool
 moves_right t k l = eqb (shift_after (moves_word t l) (8 * k)) (8 * next_of t k l)
 
 -- by these all next states are below 8, too
-all_moves_right : all (λ t. all (λ k. all (moves_right t k) (range 0 3)) (range 0 8)) (range 1 24) ≡ true
+all_moves_right : list_all (λ t. list_all (λ k. list_all (moves_right t k) (range 0 3)) (range 0 8)) (range 1 24) ≡ true
 unfolding moves_word next_of
 all_moves_right = refl
 
 abbrev verdict_right : ℕ → ℕ → Bool
 verdict_right t k = eqb (verdicts_word t / 2 ^ (8 * k) % 64) (get_or state_verdicts (8 * (t - 1) + k) 0)
 
-all_verdicts_right : all (λ t. all (verdict_right t) (range 0 8)) (range 1 24) ≡ true
+all_verdicts_right : list_all (λ t. list_all (verdict_right t) (range 0 8)) (range 1 24) ≡ true
 unfolding verdicts_word state_verdicts
 all_verdicts_right = refl
 
@@ -85,7 +86,7 @@ module _ (template : ℕ) (low : 1 ≤ template) (high : template ≤ 24) where
   moved : (k l : ℕ) → k < 8 → l < 3 → shift_after (moves_word template l) (8 * k) ≡ 8 * next_of template k l
   moved k l small few =
       eqb-true _ _
-      (all_range (moves_right template k) 0 3 l (at_every_state (λ t k. all (moves_right t k) (range 0 3)) all_moves_right template k low high small)
+      (all_range (moves_right template k) 0 3 l (at_every_state (λ t k. list_all (moves_right t k) (range 0 3)) all_moves_right template k low high small)
       (omega arith) few)
 
   pub next_small : (k l : ℕ) → k < 8 → l < 3 → next_of template k l < 8
@@ -100,11 +101,11 @@ module _ (template : ℕ) (low : 1 ≤ template) (high : template ≤ 24) where
   known_automaton = rw (inside 1 template 24 low high)
 
   module _ (a b : ℕ) (small-a : a < 32) (small_b : b < 32) where
-    shifted_from : (r : Replayer) (k : ℕ) (trace : List ℕ) → k < 8 → shift_of r ≡ 8 * k → all (λ x. ltb x 32) trace ≡ true
+    shifted_from : (r : Replayer) (k : ℕ) (trace : List ℕ) → k < 8 → shift_of r ≡ 8 * k → list_all (λ x. ltb x 32) trace ≡ true
         → shift_of (advance_all (moves_of (words template) a b) r trace) ≡ 8 * follow template a b k trace
     shifted_from r k [] small here within = here
     shifted_from r k (x ∷ trace) small here within =
-        let rest = all (λ x. ltb x 32) trace in
+        let rest = list_all (λ x. ltb x 32) trace in
         let l = letter a b x in
         let few = letter_small a b x in
         shifted_from (advance (moves_of (words template) a b) r x) (next_of template k l) trace (next_small k l small few)
@@ -114,7 +115,7 @@ module _ (template : ℕ) (low : 1 ≤ template) (high : template ≤ 24) where
         (and_right (ltb x 32) rest within)
 
     -- what shifting tells is the verdict of the state that the trace leads to
-    pub shifted : (trace : List ℕ) → all (λ x. ltb x 32) trace ≡ true
+    pub shifted : (trace : List ℕ) → list_all (λ x. ltb x 32) trace ≡ true
         → verdict_by (automaton template).verdicts (advance_all (moves_of (automaton template) a b) start trace)
         ≡ verdict_of template (follow template a b 0 trace)
     unfolding verdict_of

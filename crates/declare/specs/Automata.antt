@@ -1,7 +1,7 @@
 -- The automata of the templates, the two tables that hold them, and replay by shifting. Nothing here has to be believed: proofs/Following.antt
 -- shows that it comes to `verdict`.
 -- Assumes nothing.
-use Rattle.std.specs.Prelude.{ℕ, zero, suc, ◌+◌, ◌-◌, ◌*◌, ◌/◌, ◌%◌, ◌^◌, Bool, true, false, List, [], ◌∷◌, map, eqb, get_or, set, replicate, if◌then◌else◌}
+use Rattle.std.specs.Prelude.{ℕ, zero, suc, ◌+◌, ◌-◌, ◌*◌, ◌/◌, ◌%◌, ◌^◌, Bool, true, false, List, [], ◌∷◌, map, fold, eqb, get_or, set, replicate, if◌then◌else◌}
 use Rattle.declare.specs.declared.Verdict.{Verdict}
 use Rattle.declare.specs.declared.Verdict.TheVariants.{Fulfilled, NotActivated, Violated}
 use Rattle.declare.specs.declared.Automaton.{Automaton}
@@ -165,8 +165,7 @@ abbrev pub advance : List ℕ → Replayer → ℕ → Replayer
 advance moves r event = record { state = get_or moves (event % 32) 0 / 2 ^ shift_of r }
 
 abbrev pub advance_all : List ℕ → Replayer → List ℕ → Replayer
-advance_all moves r [] = r
-advance_all moves r (event ∷ trace) = advance_all moves (advance moves r event) trace
+advance_all moves r trace = fold (advance moves) r trace
 
 abbrev pub verdict_by : ℕ → Replayer → Verdict
 verdict_by verdicts r = told (verdicts / 2 ^ shift_of r % 64)

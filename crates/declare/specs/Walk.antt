@@ -1,8 +1,9 @@
 -- The walk over the constraints: from each the next one. Nothing here has to be believed: proofs/constraints/Walk.antt shows that it visits
 -- `constraints n`, each at its place.
 -- Assumes nothing.
-use Rattle.std.specs.Prelude.{ℕ, ◌+◌, ◌&&◌, eqb, leb, ltb, if◌then◌else◌}
+use Rattle.std.specs.Prelude.{ℕ, zero, suc, ◌+◌, ◌&&◌, List, [], ◌∷◌, eqb, leb, ltb, if◌then◌else◌}
 use Rattle.declare.specs.declared.constraints.Constraint.{Constraint}
+use Rattle.declare.specs.declared.constraints.Constraints.{Constraints}
 use Rattle.declare.specs.Constraints.{constraint}
 
 abbrev pub first_of : ℕ → Constraint
@@ -23,3 +24,12 @@ next n c =
     if ltb beside n then constraint c.template c.a beside
     else if ltb (c.a + 1) n && ltb first-beside n then constraint c.template (c.a + 1) first-beside
     else first_of (if ltb c.template 24 then c.template + 1 else 1)
+
+-- so many constraints, from c on
+abbrev pub walk : ℕ → Constraint → ℕ → List Constraint
+walk n c zero = []
+walk n c (suc more) = c ∷ walk n (next n c) more
+
+-- what the iterator over the constraints has left
+abbrev pub left : Constraints → List Constraint
+left all = walk all.activities (next all.activities all.last) all.more

@@ -15,7 +15,8 @@ use borrow.Author.Tests.{le-leb, lt-leb, eq-eqb, ne_eqb, lt-ltb, le-ltb}
 use lib.Dec.{eqb, ltb}
 use lib.ListN.{length, length-append}
 use Rattle.std.specs.Prelude.{if◌then◌else◌}
-use Rattle.base.specs.Lists.{filter, count, range, flat_map}
+use Rattle.std.specs.List.{filter}
+use Rattle.base.specs.Lists.{count, range, flat_map}
 use Rattle.base.proofs.Lists.{filter_member, member_filter, filter_sublist, count_cons, not_counted, flat_map_member, member_flat_map, flat_map_append, range_member, member_range, range_length}
 use Rattle.declare.specs.declared.constraints.Constraint.{Constraint}
 use Rattle.declare.specs.Constraints.{constraint, pairs, constraints, Over, Precedes, Exactly}

@@ -1,23 +1,23 @@
 -- The walk over the constraints visits `constraints n`, each at its place.
 -- Assumes nothing.
-use Prim.Native.Nat.{ℕ, zero, suc, ◌+◌, ◌≤◌, ◌<◌}
-use mathlib.Core.Path.{◌≡◌, refl, sym, ap, subst, ◌∙◌}
+use Prim.Native.Nat.{ℕ, zero, suc, ◌+◌, ◌-◌, ◌≤◌, ◌<◌}
+use mathlib.Core.Path.{◌≡◌, refl, sym, ap, ap₂, subst, ◌∙◌}
 use mathlib.Core.Logic.{◌⊎◌, inl, inr}
 use mathlib.Core.Bool.{true, false, not, ◌&&◌}
 use mathlib.Core.List.Memᴰ
 use mathlib.Core.List.Pairwise
 use mathlib.Core.List.{List, ◌∷◌, ◌++◌, Memᴰ, mem-cons_self, Pairwise, Pairwise-append, rel_of_Pairwise-cons}
-use native.Mathlib.Numerals.{add-one}
+use native.Mathlib.Numerals.{add-one, unary_clauses}
 use native.Mathlib.Omega.{arith}
 use native.Mathlib.Decide.{ℕ_discrete}
-use borrow.Author.Tests.{le-leb, eq-eqb, ne_eqb, lt-ltb, eqb-true, eqb-false, ltb-true, ltb-false, leb-true, leb-false, not-true}
+use borrow.Author.Tests.{le-leb, le-ltb, eq-eqb, ne_eqb, lt-ltb, eqb-true, eqb-false, ltb-true, ltb-false, leb-true, leb-false, not-true}
 use lib.Dec.{eqb, leb, ltb}
 use lib.ListN.{length, get_or, take, drop}
-use lib.Seq.{drop-cons, split_at}
+use lib.Seq.{drop-cons, drop-length, split_at}
 use Rattle.base.proofs.Bools.{either, and_left, and_right}
 use Rattle.declare.specs.declared.constraints.Constraint.{Constraint}
 use Rattle.declare.specs.Constraints.{constraint, pairs, constraints, Over, Precedes}
-use Rattle.declare.specs.Walk.{first_of, partner, next}
+use Rattle.declare.specs.Walk.{first_of, partner, next, walk}
 use Rattle.declare.proofs.constraints.Members.{constraints_over, over_constraints, precedes_prop, constraints_ordered, never_both}
 
 -- ## What a template takes beside a, by the three ranges of templates
@@ -267,3 +267,32 @@ visits n k more =
     (split_at (constraints n) k (first_of 1) (omega arith)
     ∙ ap (λ l. take k (constraints n) ++ (at n k ∷ l)) (drop-cons (constraints n) (suc k) (first_of 1) (omega arith)))
     (next_is_least n (at n k)))
+
+-- so many from a place on are those of the list from there on
+walk_rest : (n k more : ℕ) (c : Constraint) → k + more ≡ length (constraints n) → (0 < more → c ≡ at n k) → walk n c more ≡ drop k (constraints n)
+walk_rest n k zero c end here =
+    let all : k ≡ length (constraints n) = omega (arith, end) in
+    sym (rw all (drop-length (constraints n)))
+walk_rest n k (suc more) c end here =
+    let now = here (omega arith) in
+    let there : 0 < more → next n c ≡ at n (suc k) = λ h. ap (next n) now ∙ sym (rw (add-one k) at (visits n k (omega (arith, end)))) in
+    ap₂ ◌∷◌ now (walk_rest n (suc k) more (next n c) (omega (arith, end)) there)
+    ∙ sym (drop-cons (constraints n) k (first_of 1) (omega (arith, end)))
+
+-- so many constraints, where there is one: the first, and those behind it
+pub walk_on : (n more : ℕ) (c : Constraint) → 0 < more → walk n c more ≡ c ∷ walk n (next n c) (more - 1)
+walk_on n zero c h = absurd (omega arith)
+walk_on n (suc more) c h = simp unary_clauses refl
+
+-- behind what is of no template, with activities that are not declared, comes the first constraint
+first_behind : (n : ℕ) → n < 256 → next n (constraint 0 255 255) ≡ first_of 1
+first_behind n small = simp (le-ltb 256 n (omega arith), le-ltb n n (omega arith))
+
+-- all of them, from the first on
+pub walk_all : (n : ℕ) → walk n (first_of 1) (length (constraints n)) ≡ constraints n
+unfolding constraints
+walk_all zero = refl
+walk_all (suc n) = walk_rest (suc n) 0 (length (constraints (suc n))) (first_of 1) (omega arith) (λ h. sym (starts (suc n) (omega arith)))
+
+pub walk_behind : (n : ℕ) → n < 256 → walk n (next n (constraint 0 255 255)) (length (constraints n)) ≡ constraints n
+walk_behind n small = rw (first_behind n small) (walk_all n)

@@ -1,10 +1,7 @@
--- The loop's invariant: the number has the entries from the k-th on. Its measure is k.
-use Rattle.std.proofs.Common.{◌+◌, ◌*◌, ◌-◌, ◌≤◌, ◌≡◌}
+-- The loop's invariant: the number has the entries behind the k-th on.
+use Rattle.std.proofs.Common.{◌+◌, ◌*◌, ◌-◌, ◌≡◌}
 use Rattle.declare.specs.Automata.{packed}
 use Rattle.declare.proofs.packed.Given as goal
 
 abbrev pub invariant-loop-k : goal.invariant-loop-k
-invariant-loop-k l = (l.k ≤ 8) × (l.word ≡ packed l.table (l.from + l.apart * l.k) l.apart l.times (8 - l.k))
-
-abbrev pub decreases-loop-k : goal.decreases-loop-k
-decreases-loop-k l = l.k
+invariant-loop-k l = l.word ≡ packed l.table (l.from + l.apart * l.k) l.apart l.times (8 - l.k)
