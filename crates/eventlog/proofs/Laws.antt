@@ -10,7 +10,7 @@ use borrow.Author.Tests.{leb-true, le-leb}
 use lib.Dec.{leb}
 use lib.ListN.{length, take, drop, length-append, length-set}
 use lib.Seq.{slice, length-sets, sets-eq, length-take-le, take-take, take_at, drop_at, take-suc-set}
-use Rattle.base.specs.Lists.{all}
+use Rattle.std.specs.List.{list_all}
 use Rattle.base.proofs.Lists.{all_append, all_take, all_drop}
 use Rattle.base.proofs.Bools.{and_left, and_right, and_both}
 use Rattle.base.proofs.Ranges.{range_facts}
@@ -143,7 +143,7 @@ cut_same from (end ∷ ends) last events events' h within same =
 -- where what lies before the last end is declared, so are the traces
 cut_declared :
     (n from : ℕ) (ends : List ℕ) (last : ℕ) (events : List ℕ) → rising from ends ≡ true → last_from from ends ≤ last →
-    all_below n (take last events) ≡ true → all (all_below n) (cut from ends events) ≡ true
+    all_below n (take last events) ≡ true → list_all (all_below n) (cut from ends events) ≡ true
 cut_declared n from [] last events h within declared = refl
 cut_declared n from (end ∷ ends) last events h within declared =
     let r = rising_facts from end ends h in
@@ -160,7 +160,7 @@ kept_length m h =
     cut_length 0 (kept_ends m) m.events ∙ length-take-le _ _ (sound_facts m h).has_ends
 
 -- every kept trace has declared activities alone
-pub kept_declared : (m : Memory) → sound m ≡ true → all (all_below m.store.activities) (kept m) ≡ true
+pub kept_declared : (m : Memory) → sound m ≡ true → list_all (all_below m.store.activities) (kept m) ≡ true
 unfolding kept last_end
 kept_declared m h =
     let s = sound_facts m h in

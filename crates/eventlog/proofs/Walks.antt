@@ -1,30 +1,27 @@
 -- What the loops and tests of the code come to: steps along a list, and the tests of a search.
 -- Assumes nothing.
-use Prim.Native.Nat.{ℕ, zero, suc, ◌+◌, ◌≤◌, ◌<◌}
-use native.Mathlib.Numerals.{add-one}
-use native.Mathlib.Omega.{arith}
-use mathlib.Core.Path.{◌≡◌, refl, sym, ap₂, ◌∙◌}
-use mathlib.Core.Bool.{true, false, not, ◌&&◌, and-false}
+use Prim.Native.Nat.{ℕ, ◌+◌, ◌-◌, ◌≤◌, ◌<◌}
+use native.Mathlib.Numerals.{add-one, unary_clauses}
+use mathlib.Core.Path.{◌≡◌, refl, sym, ◌∙◌}
+use mathlib.Core.Bool.{Bool, true, false, cond, not, ◌&&◌, and-false}
 use mathlib.Core.List.{List, [], ◌∷◌}
-use borrow.Author.Tests.{le-leb, lt-leb, lt-ltb, le-ltb, ltb-false, eq-eqb, ne_eqb, not-true}
-use lib.Dec.{leb, ltb, eqb}
-use lib.ListN.{length, get_or, drop, drop_of_length-le}
+use borrow.Author.Tests.{le-leb, lt-leb, le-ltb, ltb-false, not-true}
+use lib.Dec.{leb, ltb}
+use lib.ListN.{length, get_or, drop}
 use lib.Seq.{drop-cons}
 use Rattle.eventlog.specs.Store.{longest_trace, last_from, rising, all_below}
 use Rattle.eventlog.specs.Calls.{declared_front}
-use Rattle.std.specs.Prelude.{if◌then◌else◌}
-use Rattle.base.proofs.Lists.{find_index_within, all_by_index, find_index_first}
+use Rattle.base.proofs.Lists.{find_index_first, position_by_index}
+use Rattle.std.specs.List.{position}
+use Rattle.std.specs.Prelude.{Some, None}
 
-pub last_none : (ends : List ℕ) → length ends ≡ 0 → last_from 0 ends ≡ 0
-last_none [] h = refl
-last_none (end ∷ ends) h = absurd (omega arith)
+last_behind : (last : ℕ) (ends : List ℕ) → last_from last ends ≡ get_or (last ∷ ends) (length ends) 0
+last_behind last [] = refl
+last_behind last (end ∷ ends) = last_behind end ends
 
-pub last_at : (last : ℕ) (ends : List ℕ) (n : ℕ) → length ends ≡ suc n → last_from last ends ≡ get_or ends n 0
-last_at last [] n h = absurd (omega arith)
-last_at last (end ∷ []) zero h = refl
-last_at last (end ∷ []) (suc n) h = absurd (omega arith)
-last_at last (end ∷ next ∷ ends) zero h = absurd (omega arith)
-last_at last (end ∷ next ∷ ends) (suc n) h = last_at end (next ∷ ends) n (omega arith)
+pub last_read : (ends : List ℕ) → get_or ends (length ends - 1) 0 ≡ last_from 0 ends
+last_read [] = refl
+last_read (end ∷ ends) = simp unary_clauses (sym (last_behind end ends))
 
 -- the end at i, met after `last`
 module _ (last : ℕ) (ends : List ℕ) (i : ℕ) (within : i < length ends) where
@@ -45,39 +42,27 @@ module _ (last : ℕ) (ends : List ℕ) (i : ℕ) (within : i < length ends) whe
       rising last (drop i ends) ≡ rising (get_or ends i 0) (drop (i + 1) ends)
   rising_goes_on low high = rw (rising_step, le-leb last (get_or ends i 0) low, le-leb (get_or ends i 0) (last + longest_trace) high)
 
--- the event at i, met after declared ones alone
-module _ (n : ℕ) (events : List ℕ) (i : ℕ) where
-  front_step :
-      i < length events →
-      declared_front n (drop i events) ≡ (if not (ltb (get_or events i 0) n) then 0 else suc (declared_front n (drop (i + 1) events)))
+-- what a search for the first undeclared event tells
+module _ (n : ℕ) (events : List ℕ) where
+  found_by : position (λ event. not (ltb event n)) events ≡ cond (all_below n events) None (Some (declared_front n events))
   unfolding declared_front
-  front_step within = rw (add-one, drop-cons events i 0 within)
+  found_by = position_by_index (λ event. ltb event n) events
 
-  pub front_stops : i < length events → n ≤ get_or events i 0 → i + declared_front n (drop i events) ≡ i
-  front_stops within above = rw (front_step within, le-ltb (get_or events i 0) n above) (omega arith)
+  pub none_undeclared : position (λ event. not (ltb event n)) events ≡ None → all_below n events ≡ true
+  none_undeclared h = go (all_below n events) (sym found_by ∙ h)
+    where
+      go : (t : Bool) → cond t None (Some (declared_front n events)) ≡ None → t ≡ true
+      go true e = refl
+      go false e = cc
 
-  pub front_goes_on :
-      i < length events → get_or events i 0 < n → i + declared_front n (drop i events) ≡ i + 1 + declared_front n (drop (i + 1) events)
-  front_goes_on within below = rw (front_step within, lt-ltb (get_or events i 0) n below) (omega arith)
-
-  pub front_ends : length events ≤ i → i + declared_front n (drop i events) ≡ i
-  unfolding declared_front
-  front_ends behind = rw (drop_of_length-le events behind) (omega arith)
-
--- A search that gave r for the first undeclared event tells whether all are declared.
-module _ (n : ℕ) (events : List ℕ) (r : ℕ) (found : r ≡ declared_front n events) where
-  pub all_declared : (count : ℕ) → length events ≡ count → all_below n events ≡ eqb r count
-  unfolding declared_front
-  all_declared count counted = all_by_index (λ x. ltb x n) events ∙ ap₂ eqb (sym found) counted
-
-  pub declared_yes : length events ≤ r → all_below n events ≡ true
-  unfolding declared_front
-  declared_yes none =
-      all_declared (length events) refl
-      ∙ eq-eqb r (length events) (omega (arith, none, found, find_index_within (λ x. not (ltb x n)) events))
-
-  pub declared_no : r < length events → all_below n events ≡ false
-  declared_no some = all_declared (length events) refl ∙ ne_eqb r (length events) (λ e. omega (arith, some, e))
+  pub some_undeclared :
+      (place : ℕ) → position (λ event. not (ltb event n)) events ≡ Some place →
+      (all_below n events ≡ false) × (place ≡ declared_front n events)
+  some_undeclared place h = go (all_below n events) (sym found_by ∙ h)
+    where
+      go : (t : Bool) → cond t None (Some (declared_front n events)) ≡ Some place → (t ≡ false) × (place ≡ declared_front n events)
+      go true e = cc
+      go false e = (refl, cc)
 
 -- Wherever an undeclared event stands, one stands at the end of the declared front, and that is not behind it: so the place that
 -- refusal 6 of add carries is the lowest.

@@ -1,11 +1,11 @@
 -- Open and add: what each says and leaves, as definitions of what it was given. The contracts cite these.
 -- Assumes nothing.
-use Rattle.std.specs.Prelude.{ℕ, ◌+◌, not, List, [], ◌∷◌, ltb, length, set}
+use Rattle.std.specs.Prelude.{ℕ, ◌+◌, not, List, [], ◌∷◌, ltb, length, set, Result}
 use Rattle.std.proofs.lemmas.List.Edits.{sets}
 use Rattle.base.specs.Lists.{find_index}
-use Rattle.base.specs.Checks.{Check, ◌refuses◌with◌, Reply, gives, Outcome}
-use Rattle.answers.specs.Answers.{refusal_said}
-use Rattle.eventlog.specs.declared.OpenAnswer.{OpenAnswer}
+use Rattle.base.specs.Checks.{Check, ◌refuses◌with◌, Reply, Outcome}
+use Rattle.answers.specs.Answers.{said_by, record_after}
+use Rattle.answers.specs.declared.Refusal.{Refusal}
 use Rattle.eventlog.specs.declared.Room.{Room}
 use Rattle.eventlog.specs.declared.Store.{Store}
 use Rattle.eventlog.specs.Store.{longest_trace, declarable, Memory, last_end, sound, all_below, room, full, lacks}
@@ -23,14 +23,12 @@ abbrev pub empty : ℕ → Store
 empty n = record { activities = n; traces = 0 }
 
 -- document 01's number and values for each case
-abbrev pub open_said : OpenAnswer → Reply
-open_said (OpenAnswer.Opened store) = gives (store.activities ∷ store.traces ∷ [])
-open_said (OpenAnswer.Refused refusal) = refusal_said refusal
+abbrev pub open_said : Result Store Refusal → Reply
+open_said = said_by (λ store. store.activities ∷ store.traces ∷ [])
 
 -- the record after an open: a refused one leaves the record there was
-abbrev pub opened : Store → OpenAnswer → Store
-opened there (OpenAnswer.Opened store) = store
-opened there (OpenAnswer.Refused refusal) = there
+abbrev pub opened : Store → Result Store Refusal → Store
+opened = record_after
 
 -- `open(n)`, whatever record there was
 abbrev pub Opens : ℕ → Store → Reply → Store → Type 0

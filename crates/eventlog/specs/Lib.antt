@@ -1,3 +1,4 @@
 pub mod Calls
 pub mod Examples
+pub mod SoundStore
 pub mod Store

@@ -3,7 +3,7 @@
 use Rattle.std.specs.Prelude.{ℕ, ◌+◌, Bool, true, ◌&&◌, ◌||◌, List, [], ◌∷◌, eqb, leb, ltb, length, take}
 use Rattle.std.proofs.Math.Seq.{slice}
 use Rattle.base.specs.Logic.{in_range}
-use Rattle.base.specs.Lists.{all}
+use Rattle.std.specs.List.{list_all}
 use Rattle.eventlog.specs.declared.Space.{Space}
 use Rattle.eventlog.specs.declared.Room.{Room}
 use Rattle.eventlog.specs.declared.Store.{Store}
@@ -65,7 +65,7 @@ rising last [] = true
 rising last (end ∷ ends) = leb last end && (leb end (last + longest_trace) && rising end ends)
 
 abbrev pub all_below : ℕ → List ℕ → Bool
-all_below n xs = all (λ x. ltb x n) xs
+all_below n xs = list_all (λ x. ltb x n) xs
 
 -- N is 1 to 32
 abbrev pub declarable : ℕ → Bool

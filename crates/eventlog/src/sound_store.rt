@@ -1,0 +1,41 @@
+// A store that is known to be sound.
+ghost use Rattle.std.specs.Prelude.{◌≡◌, true};
+ghost use Rattle.eventlog.specs.Store.{lent, sound};
+
+use crate::{KeptTraces, Store};
+
+// A record beside the buffers that it is sound with. The functions before the test are lent the three apart, as C lends them.
+#[derive(Clone, Copy)]
+pub struct SoundStore<'a> {
+    pub store: Store,
+    pub events: &'a [u8],
+    pub ends: &'a [u32],
+    ghost is_sound: { sound (lent store events.now ends.now) ≡ true },
+}
+
+impl<'a> SoundStore<'a> {
+    ghost use Rattle.std.specs.Prelude.{◌≡◌, false, MatchOption};
+    ghost use Rattle.eventlog.specs.Store.{lent, sound, kept};
+    ghost use Rattle.eventlog.specs.SoundStore.{memory_of};
+
+    // The test for soundness.
+    pub fn new(store: Store, events: &'a [u8], ends: &'a [u32]) -> Option<SoundStore<'a>>
+        ensures { MatchOption result (sound (lent store events.now ends.now) ≡ false) (λ s. memory_of s ≡ lent store events.now ends.now) }
+    {
+        if crate::is_sound(store, events, ends) {
+            Some(SoundStore {
+                store,
+                events,
+                ends,
+            })
+        } else {
+            None
+        }
+    }
+
+    pub fn traces(self) -> KeptTraces<'a>
+        ensures { result ≡ kept (memory_of self.entry) }
+    {
+        KeptTraces::new(self.events, &self.ends[..self.store.traces as usize])
+    }
+}
