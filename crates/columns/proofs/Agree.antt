@@ -11,16 +11,17 @@ use lib.Dec.{eqb, leb, ltb}
 use lib.ListN.{length, get_or, take, drop, length-append}
 use lib.Seq.{slice}
 use borrow.Author.Tests.{lt-ltb, le-ltb, eq-eqb, ne_eqb, leb-true, leb-false, eqb-true, eqb-false}
-use Rattle.std.specs.Prelude.{if◌then◌else◌}
+use Rattle.std.specs.Prelude.{Result, Ok, Err, IsOk, if◌then◌else◌}
 use Rattle.base.specs.Checks.{Check, ◌refuses◌with◌, Reply, gives, refused, reply}
 use Rattle.eventlog.specs.declared.Room.{Room}
 use Rattle.eventlog.specs.Store.{longest_trace, total, all_below, after_traces, full}
 use Rattle.columns.specs.declared.Progress.{Progress}
 use Rattle.fields.specs.Field.{line_feed, well_formed, value}
 use Rattle.columns.specs.Log.{Line, line_of, lines_within, lines, Before, nothing_read, with_line, last?, length_of, extend_last, line_checks, log_checks_from, spelled_from}
-use Rattle.columns.specs.Survey.{Bounded, fault_of, next_progress, survey_of, IsAccepted, at_start}
-use Rattle.answers.specs.Answers.{count_said}
-use Rattle.base.proofs.Bools.{either, and_left, and_right}
+use Rattle.columns.specs.Survey.{event_of, Bounded, fault_of, next_progress, survey_of, at_start}
+use Rattle.answers.specs.Answers.{reason_number, count_said}
+use Rattle.answers.specs.declared.Reason.{Reason}
+use Rattle.base.proofs.Bools.{either, clash, and_left, and_right}
 use Rattle.columns.proofs.LineSteps.{Faultless, faultless, bounded_next}
 use Rattle.eventlog.proofs.Traces.{Acceptable, Fitting, total_last, acceptable_last, acceptable_front}
 use Rattle.base.proofs.Lists.{all_append}
@@ -66,12 +67,13 @@ extended (t ∷ (u ∷ traces)) trace x = ap (λ (l : List (List ℕ)). t ∷ l)
 
 -- ## The checks of one line
 
--- the refusal of a line, 0 where there is none
-abbrev refusal : Room → Progress → Line → ℕ
-refusal o p line = if line.laid_out then fault_of o p line.number line.activity else 4
+-- what a line is refused for
+abbrev refusal : Room → Progress → Line → Result (Unit {0}) Reason
+refusal o p line = if line.laid_out then fault_of o p (event_of line) else Err Reason.Malformed
 
-abbrev decided : ℕ → ℕ → Reply → Reply
-decided number place on = if eqb number 0 then on else refused number place
+abbrev decided : Result (Unit {0}) Reason → ℕ → Reply → Reply
+decided (Ok passed) place on = on
+decided (Err reason) place on = refused (reason_number reason) place
 
 -- the order of the checks, as such
 in_order :
@@ -81,10 +83,10 @@ in_order :
     ((same && long) refuses 7 with place) ∷ ((not same && full) refuses 8 with place) ∷ (no_room refuses 9 with place) ∷ more) values ≡
     decided
     (if laid then
-    if falls then 5 else if undeclared then 6
-    else if same then (if long then 7 else if no_room then 9 else 0)
-    else if full then 8 else if no_room then 9 else 0
-    else 4) place (reply more values)
+    if falls then Err Reason.NumberFalls else if undeclared then Err Reason.Undeclared
+    else if same then (if long then Err Reason.TooLong else if no_room then Err Reason.NoSpace else Ok tt)
+    else if full then Err Reason.Full else if no_room then Err Reason.NoSpace else Ok tt
+    else Err Reason.Malformed) place (reply more values)
 in_order false falls undeclared same long full no_room place more values = refl
 in_order true true undeclared same long full no_room place more values = refl
 in_order true false true same long full no_room place more values = refl
@@ -108,13 +110,14 @@ module _ (o : Room) (place : ℕ) (line : Line) (more : List Check) (values : Li
   start_line =
       in_order line.laid_out false (leb o.activities line.activity) false false (full (after_traces o []))
       (ltb o.space.events (o.last + 0 + 1)) place more values
-      ∙ ap (λ (k : ℕ). decided k place (reply more values)) same
+      ∙ ap (λ (r : Result (Unit {0}) Reason). decided r place (reply more values)) same
     where
       same :
           (if line.laid_out then
-          if leb o.activities line.activity then 6
-          else if full (after_traces o []) then 8 else if ltb o.space.events (o.last + 0 + 1) then 9 else 0
-          else 4) ≡ refusal o (at_start o) line
+          if leb o.activities line.activity then Err Reason.Undeclared
+          else if full (after_traces o []) then Err Reason.Full
+          else if ltb o.space.events (o.last + 0 + 1) then Err Reason.NoSpace else Ok tt
+          else Err Reason.Malformed) ≡ refusal o (at_start o) line
       same =
           either line.laid_out
           (λ q.
@@ -215,7 +218,7 @@ module _ (o : Room) (line : Line) where
         }
 
     going_on :
-        Faultless o (progress_of o (ending_in before traces trace)) line.number line.activity →
+        Faultless o (progress_of o (ending_in before traces trace)) (event_of line) →
         GoesOn o line (ending_in before traces trace)
     going_on h =
         either (eqb line.number before.number)
@@ -224,7 +227,7 @@ module _ (o : Room) (line : Line) where
 
   pub goes_on :
       (s : Prefix) → Acceptable o.activities (before_of s).traces → 1 ≤ line.number →
-      Faultless o (progress_of o s) line.number line.activity → GoesOn o line s
+      Faultless o (progress_of o s) (event_of line) → GoesOn o line s
   goes_on no_line e positive h = start_on positive h.declared
   goes_on (ending_in before traces trace) e positive h = going_on before traces trace e h
 
@@ -237,17 +240,19 @@ Numbered (line ∷ rest) = (line.laid_out ≡ true → 1 ≤ line.number) × Num
 
 one_line :
     (o : Room) (p : Progress) (place : ℕ) (line : Line) (rest : List Line) (on : Reply) →
-    (line.laid_out ≡ true → fault_of o p line.number line.activity ≡ 0 →
+    (line.laid_out ≡ true → fault_of o p (event_of line) ≡ Ok tt →
     on ≡ count_said (survey_of o (next_progress p line.number) (place + 1) rest)) →
     decided (refusal o p line) place on ≡ count_said (survey_of o p place (line ∷ rest))
 one_line o p place line rest on f =
-    let fault = fault_of o p line.number line.activity in
     either line.laid_out
-    (λ q.
-    either (eqb fault 0)
-    (λ r. rw (q, r, survey_of) (f q (eqb-true fault 0 r)))
-    (λ r. rw (q, r, survey_of)))
+    (λ q. by q (fault_of o p (event_of line)) refl)
     (λ q. rw (q, survey_of))
+  where
+    by :
+        line.laid_out ≡ true → (r : Result (Unit {0}) Reason) → fault_of o p (event_of line) ≡ r →
+        decided (refusal o p line) place on ≡ count_said (survey_of o p place (line ∷ rest))
+    by q (Ok passed) e = rw (q, e, survey_of) (f q e)
+    by q (Err reason) e = rw (q, e, survey_of)
 
 abbrev answered : Room → Before → ℕ → List Line → Reply
 answered o before place rest = reply (log_checks_from o before place rest) (length (spelled_from before rest) ∷ [])
@@ -264,9 +269,9 @@ agree o (line ∷ rest) s place e w n =
     checked o place line (log_checks_from o after (place + 1) rest) (length (spelled_from after rest) ∷ []) n.0 s e
     ∙ one_line o p place line rest (answered o after (place + 1) rest)
     (λ laid fault.
-    let h = faultless o p w line.number line.activity fault in
+    let h = faultless o p w (event_of line) fault in
     let g = goes_on o line s e (n.0 laid) h in
-    let w' = bounded_next o p w line.number line.activity h in
+    let w' = bounded_next o p w (event_of line) h in
     rw (g.read, g.counted) (agree o rest g.next (place + 1) g.each (rw g.counted at w') n.1))
 
 numbered_line : (bytes : List ℕ) → (line_of bytes).laid_out ≡ true → 1 ≤ (line_of bytes).number
@@ -291,24 +296,25 @@ numbered_lines log = numbered_within (length log) log
 
 pub record LinePasses (o : Room) (p : Progress) (place : ℕ) (line : Line) (rest : List Line) : Type 0 where
   pub laid : line.laid_out ≡ true
-  pub no_fault : fault_of o p line.number line.activity ≡ 0
-  pub on : IsAccepted (survey_of o (next_progress p line.number) (place + 1) rest)
+  pub no_fault : fault_of o p (event_of line) ≡ Ok tt
+  pub on : IsOk (survey_of o (next_progress p line.number) (place + 1) rest)
 
 pub line_passes :
     (o : Room) (p : Progress) (place : ℕ) (line : Line) (rest : List Line) →
-    IsAccepted (survey_of o p place (line ∷ rest)) → LinePasses o p place line rest
+    IsOk (survey_of o p place (line ∷ rest)) → LinePasses o p place line rest
 line_passes o p place line rest a =
-    let fault = fault_of o p line.number line.activity in
     either line.laid_out
-    (λ q.
-    either (eqb fault 0)
-    (λ r. record { laid = q; no_fault = eqb-true fault 0 r; on = rw (q, r, survey_of) at a })
-    (λ r. absurd (rw (q, r, survey_of) at a)))
-    (λ q. absurd (rw (q, survey_of) at a))
+    (λ q. by q (fault_of o p (event_of line)) refl)
+    (λ q. clash (rw (q, survey_of) at a) refl)
+  where
+    by :
+        line.laid_out ≡ true → (r : Result (Unit {0}) Reason) → fault_of o p (event_of line) ≡ r → LinePasses o p place line rest
+    by q (Ok passed) e = record { laid = q; no_fault = e; on = rw (q, e, survey_of) at a }
+    by q (Err reason) e = clash (rw (q, e, survey_of) at a) refl
 
 pub fitting :
     (o : Room) (rest : List Line) (s : Prefix) (place : ℕ) → Acceptable o.activities (before_of s).traces →
-    Bounded o (progress_of o s) → Numbered rest → IsAccepted (survey_of o (progress_of o s) place rest) →
+    Bounded o (progress_of o s) → Numbered rest → IsOk (survey_of o (progress_of o s) place rest) →
     Fitting o (spelled_from (before_of s) rest)
 fitting o [] s place e w n a =
     let added = added_of o s in
@@ -317,7 +323,7 @@ fitting o [] s place e w n a =
 fitting o (line ∷ rest) s place e w n a =
     let p = progress_of o s in
     let l = line_passes o p place line rest a in
-    let h = faultless o p w line.number line.activity l.no_fault in
+    let h = faultless o p w (event_of line) l.no_fault in
     let g = goes_on o line s e (n.0 l.laid) h in
-    let w' = bounded_next o p w line.number line.activity h in
+    let w' = bounded_next o p w (event_of line) h in
     rw g.read (fitting o rest g.next (place + 1) g.each (rw g.counted at w') n.1 (rw g.counted at l.on))

@@ -2,70 +2,87 @@
 -- Assumes nothing.
 use Prim.Native.Nat.{ℕ, ◌+◌, ◌≤◌}
 use mathlib.Core.Path.{◌≡◌, sym, ap, ◌∙◌}
-use mathlib.Core.Bool.{true, false}
+use mathlib.Core.Bool.{true}
 use mathlib.Core.List.{List, [], ◌∷◌}
 use native.Mathlib.Omega.{arith}
 use lib.ListN.{length}
-use borrow.Author.Tests.{not-false}
-use Rattle.base.specs.Checks.{Reply, gives, refused, reply}
-use Rattle.base.proofs.Checks.{none_fail, none_fail_reply}
-use Rattle.eventlog.specs.Store.{Memory, memory, with_store, most_traces, sound, room}
-use Rattle.answers.specs.declared.CountAnswer.{CountAnswer}
-use Rattle.columns.specs.Log.{lines, log_checks, spelled}
-use Rattle.columns.specs.Survey.{survey_of, IsAccepted, at_start, lines_written}
+use Rattle.std.specs.Prelude.{Result, Ok, IsOk, is_ok}
+use Rattle.base.specs.Checks.{reply}
+use Rattle.base.proofs.Checks.{given_values}
+use Rattle.answers.specs.declared.Refusal.{Refusal}
 use Rattle.answers.specs.Answers.{count_said}
 use Rattle.eventlog.specs.declared.Room.{Room}
+use Rattle.eventlog.specs.declared.sound_store.SoundStore.{SoundStore}
+use Rattle.eventlog.specs.SoundStore.{memory_of}
+use Rattle.eventlog.specs.Store.{Memory, memory, with_store, most_traces, sound, room}
 use Rattle.eventlog.specs.Calls.{with_traces}
+use Rattle.eventlog.proofs.Traces.{Fitting, grown}
+use Rattle.columns.specs.declared.Progress.{Progress}
+use Rattle.columns.specs.Log.{lines, log_checks, spelled}
+use Rattle.columns.specs.Survey.{at_start, survey_of, memory_in, lines_written}
 use Rattle.columns.specs.Calls.{checks_of_read}
 use Rattle.columns.proofs.Agree.{no_line, numbered_lines}
-use Rattle.columns.proofs.Laws.{bounded_start, given_accepted, survey_said, fitting_accepted}
+use Rattle.columns.proofs.Laws.{bounded_start, survey_said, fitting_accepted}
 use Rattle.columns.proofs.Written.{written}
-use Rattle.eventlog.proofs.Traces.{Fitting, grown}
 
-module _ (m : Memory) (log : List ℕ) where
-  abbrev replied : Reply
-  replied = reply (checks_of_read m log) (length (spelled log) ∷ [])
+-- What is known before the first line: the memory is sound, and the log is read into its room from the start.
+pub record Begun (m : Memory) (r : Room) (p : Progress) : Type 0 where
+  pub is_sound : sound m ≡ true
+  pub there : r ≡ room m
+  pub start : p ≡ at_start (room m)
 
-  abbrev surveyed : CountAnswer
-  surveyed = survey_of (room m) (at_start (room m)) 1 (lines log)
+pub begun :
+    {m : Memory} {r : Room} {p : Progress} (s : SoundStore) → memory_of s ≡ m → r ≡ room (memory_of s) →
+    p ≡ at_start (room (memory_of s)) → Begun m r p
+begun s same there start =
+    record {
+      is_sound = ap sound (sym same) ∙ s.is_sound;
+      there = there ∙ ap room same;
+      start = start ∙ ap (λ (b : Memory). at_start (room b)) same;
+    }
 
-  pub unsound_replied : sound m ≡ false → refused 1 0 ≡ replied
-  unsound_replied h = rw h
+module _ {m : Memory} {r : Room} {p : Progress} (b : Begun m r p) (log : List ℕ) where
+  at_room : survey_of r p 1 (lines log) ≡ survey_of (room m) (at_start (room m)) 1 (lines log)
+  at_room =
+      ap (λ (q : Room). survey_of q p 1 (lines log)) b.there ∙ ap (λ (q : Progress). survey_of (room m) q 1 (lines log)) b.start
 
-  pub sound_replied : sound m ≡ true → count_said surveyed ≡ replied
-  sound_replied h = rw h (survey_said m log h)
+  pub says :
+      {answer : Result ℕ Refusal} → answer ≡ survey_of r p 1 (lines log) →
+      count_said answer ≡ reply (checks_of_read m log) (length (spelled log) ∷ [])
+  says e = ap count_said (e ∙ at_room) ∙ rw b.is_sound (survey_said m log b.is_sound)
 
-  -- What is known where the answer is a count.
-  pub record Counted (added : ℕ) : Type 0 where
-    pub is_sound : sound m ≡ true
-    pub passes : IsAccepted surveyed
-    pub fitting : Fitting (room m) (spelled log)
-    pub count : added ≡ length (spelled log)
+  module _ (added : ℕ) (e : Ok added ≡ survey_of r p 1 (lines log)) where
+    accepted : IsOk (survey_of (room m) (at_start (room m)) 1 (lines log))
+    accepted = ap is_ok (sym (e ∙ at_room))
 
-  pub counted : (added : ℕ) → gives (added ∷ []) ≡ replied → Counted added
-  counted added e =
-      let values = length (spelled log) ∷ [] in
-      let none = none_fail (checks_of_read m log) values (added ∷ []) (sym e) in
-      let h = not-false (sound m) none.0 in
-      let passes = given_accepted surveyed values (survey_said m log h ∙ none_fail_reply (log_checks (room m) log) values none.1) in
-      let same : gives (added ∷ []) ≡ gives values = e ∙ none_fail_reply (checks_of_read m log) values none in
-      record { is_sound = h; passes = passes; fitting = fitting_accepted m log h passes; count = cc }
+    fits : Fitting (room m) (spelled log)
+    fits = fitting_accepted m log b.is_sound accepted
 
-  pub few_added : (added : ℕ) → gives (added ∷ []) ≡ replied → m.store.traces + added ≤ most_traces
-  few_added added e = let k = counted added e in omega (arith, k.fitting.few, k.count)
+    count : length (spelled log) ≡ added
+    count =
+        let same =
+        given_values (log_checks (room m) log) (length (spelled log) ∷ []) (added ∷ [])
+        (sym (survey_said m log b.is_sound) ∙ ap count_said (sym (e ∙ at_room))) in
+        cc
 
-  -- what the second pass writes, with the record's new count, is the memory with the log's traces
-  pub appended :
-      (added : ℕ) (b : Memory) → gives (added ∷ []) ≡ replied → b ≡ lines_written (at_start (room m)) m (lines log) →
-      memory (record { activities = m.store.activities; traces = m.store.traces + added }) b.events b.ends ≡ with_traces m (spelled log)
-  unfolding spelled
-  appended added b e w =
-      let k = counted added e in
-      let all = with_traces m (spelled log) in
-      let left : b ≡ with_store m.store all =
-      w ∙ written m k.is_sound (lines log) no_line 1 tt (bounded_start m k.is_sound) (numbered_lines log) k.passes in
-      let room_left = (grown (spelled log) m k.is_sound k.fitting).room_left in
-      let activities : m.store.activities ≡ all.store.activities = sym (ap (λ (r : Room). r.activities) room_left) in
-      let traces : m.store.traces + added ≡ all.store.traces = omega (arith, k.count, ap (λ (r : Room). r.traces) room_left) in
-      λ i.
-      record { store = record { activities = activities i; traces = traces i }; events = (left i).events; ends = (left i).ends }
+    pub few_added : m.store.traces + added ≤ most_traces
+    few_added = omega (arith, fits.few, count)
+
+    -- what the second pass writes, with the record's new count, is the memory with the log's traces
+    pub appended :
+        (events ends : List ℕ) →
+        memory_in r events ends ≡ lines_written p (memory_in r m.events m.ends) (lines log) →
+        memory (record { activities = m.store.activities; traces = m.store.traces + added }) events ends ≡ with_traces m (spelled log)
+    unfolding spelled
+    appended events ends w =
+        let all = with_traces m (spelled log) in
+        let left : memory m.store events ends ≡ with_store m.store all =
+        ap (λ (q : Room). memory_in q events ends) (sym b.there) ∙ w
+        ∙ ap (λ (q : Room). lines_written p (memory_in q m.events m.ends) (lines log)) b.there
+        ∙ ap (λ (q : Progress). lines_written q m (lines log)) b.start
+        ∙ written m b.is_sound (lines log) no_line 1 tt (bounded_start m b.is_sound) (numbered_lines log) accepted in
+        let room_left = (grown (spelled log) m b.is_sound fits).room_left in
+        let activities : m.store.activities ≡ all.store.activities = sym (ap (λ (q : Room). q.activities) room_left) in
+        let traces : m.store.traces + added ≡ all.store.traces = omega (arith, count, ap (λ (q : Room). q.traces) room_left) in
+        λ i.
+        record { store = record { activities = activities i; traces = traces i }; events = (left i).events; ends = (left i).ends }

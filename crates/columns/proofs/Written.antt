@@ -1,95 +1,51 @@
 -- Laws of the second pass: on an accepted log each line's event has its place, and what is written is the log's traces, added one after
 -- the other.
 -- Assumes nothing.
-use Prim.Native.Nat.{ℕ, ◌+◌, ◌-◌, ◌≤◌, ◌<◌}
+use Prim.Native.Nat.{ℕ, ◌+◌, ◌-◌, ◌≤◌}
 use mathlib.Core.Path.{◌≡◌, refl, sym, ap, ◌∙◌}
 use mathlib.Core.Bool.{true}
 use mathlib.Core.List.{List, [], ◌∷◌, ◌++◌}
 use native.Mathlib.Omega.{arith}
 use lib.Dec.{eqb}
-use lib.ListN.{length, take, drop, set, length-set, length-append}
+use lib.ListN.{length, set, length-append}
 use lib.Seq.{set-set}
 use borrow.Author.Tests.{eqb-true, eqb-false, eq-eqb, ne_eqb}
 use Rattle.base.proofs.Bools.{either}
 use Rattle.base.proofs.Stores.{sets_append}
 use Rattle.eventlog.specs.declared.Room.{Room}
 use Rattle.eventlog.specs.declared.Store.{Store}
-use Rattle.eventlog.specs.Store.{most_activities, Memory, memory, with_store, last_end, sound, room}
+use Rattle.eventlog.specs.Store.{Memory, memory, with_store, last_end, sound, room}
 use Rattle.eventlog.specs.Calls.{with_trace, with_traces}
+use Rattle.std.specs.Prelude.{Some, None, Ok, IsOk, is_ok}
 use Rattle.columns.specs.declared.Entry.{Entry}
 use Rattle.columns.specs.declared.Progress.{Progress}
-use Rattle.columns.specs.Log.{Line, line_of, lines, Before, with_line, spelled_from}
-use Rattle.columns.specs.Survey.{entry_of, Bounded, Onward, next_progress, survey_of, IsAccepted, moved, line_written, Placed, Writable, lines_written}
-use Rattle.columns.proofs.Lines.{lines_at}
-use Rattle.columns.proofs.LineSteps.{Faultless, faultless, bounded_next}
+use Rattle.columns.specs.Log.{Line, Before, with_line, spelled_from}
+use Rattle.columns.specs.Survey.{event_of, entry_of, Bounded, fault_of, next_progress, survey_of, line_written, lines_written}
+use Rattle.columns.proofs.LineSteps.{faultless, bounded_next}
 use Rattle.columns.proofs.Agree.{Prefix, no_line, ending_in, before_of, progress_of, extended, goes_on, fitting, Numbered, LinePasses, line_passes}
 use Rattle.eventlog.proofs.Traces.{Acceptable, Fitting, grown, with_last, total_last, acceptable_front}
 
 -- ## One line of an accepted log
 
-placed :
-    (o : Room) (p : Progress) (number activity : ℕ) (m : Memory) → Bounded o p → o.activities ≤ most_activities →
-    m.store.traces ≡ o.traces → length m.events ≡ o.space.events → length m.ends ≡ o.space.ends →
-    Faultless o p number activity → Placed m p number activity
-placed o p number activity m w few traces events ends h =
-    let onward : Onward p number =
-    record { few = omega (arith, w.few); reach = omega (arith, w.in_reach, w.few); goes_on = h.goes_on } in
-    either (eqb number p.number)
-    (λ q.
-    let same = eqb-true number p.number q in
-    record {
-      byte = omega (arith, h.declared);
-      onward = onward;
-      few_after = rw q (omega (arith, w.few));
-      some_trace = rw q (omega (arith, h.goes_on same, w.in_reach));
-      has_end = rw q (omega (arith, w.has_ends));
-      has_event = omega (arith, h.placed);
-    })
-    (λ q.
-    let more = h.starts (eqb-false number p.number q) in
-    record {
-      byte = omega (arith, h.declared);
-      onward = onward;
-      few_after = rw q (omega (arith, more.0));
-      some_trace = rw q (omega arith);
-      has_end = rw q (omega (arith, more.1));
-      has_event = omega (arith, h.placed);
-    })
+module _ (o : Room) (p : Progress) (place : ℕ) {all : List Line} {line : Line} {rest : List Line} (e : all ≡ line ∷ rest) (a : IsOk (survey_of o p place all)) where
+  passes_here : LinePasses o p place line rest
+  passes_here = line_passes o p place line rest (rw e at a)
 
-pub written_lengths :
-    (p : Progress) (entry : Entry) (m : Memory) →
-    (length (line_written p entry m).events ≡ length m.events) × (length (line_written p entry m).ends ≡ length m.ends)
-written_lengths p Entry.Malformed m = (refl, refl)
-written_lengths p (Entry.Event number activity) m = (length-set m.events _ _, length-set m.ends _ _)
+  pub not_malformed {ℓ} : {P : Type ℓ} → None ≡ entry_of line → P
+  not_malformed m = let z : None ≡ Some (event_of line) = rw passes_here.laid at m in absurd cc
 
-module _ (o : Room) (p : Progress) (place : ℕ) (log : List ℕ) (at : ℕ) (here : at < length log) where
-  abbrev pub entry_at : Entry
-  entry_at = entry_of (line_of (take 10 (drop at log)))
+  module _ {entry : Entry} (is : Some entry ≡ entry_of line) where
+    same_entry : event_of line ≡ entry
+    same_entry = let z : Some entry ≡ Some (event_of line) = rw passes_here.laid at is in cc
 
-  -- the second pass, one line on
-  pub lines_written_at :
-      (m : Memory) →
-      lines_written p m (lines (drop at log)) ≡ lines_written (moved p entry_at) (line_written p entry_at m) (lines (drop (at + 10) log))
-  lines_written_at m = ap (lines_written p m) (lines_at log at here)
+    pub passes_fault : fault_of o p entry ≡ Ok tt
+    passes_fault = ap (fault_of o p) (sym same_entry) ∙ passes_here.no_fault
 
-  module _ (w : Bounded o p) (a : IsAccepted (survey_of o p place (lines (drop at log)))) where
-    passes_at : LinePasses o p place (line_of (take 10 (drop at log))) (lines (drop (at + 10) log))
-    passes_at = line_passes o p place (line_of (take 10 (drop at log))) (lines (drop (at + 10) log)) (rw (lines_at log at here) at a)
+    pub passes_on : IsOk (survey_of o (next_progress p entry.number) (place + 1) rest)
+    passes_on = ap (λ (x : Entry). is_ok (survey_of o (next_progress p x.number) (place + 1) rest)) (sym same_entry) ∙ passes_here.on
 
-    faultless_at : Faultless o p (line_of (take 10 (drop at log))).number (line_of (take 10 (drop at log))).activity
-    faultless_at = faultless o p w _ _ passes_at.no_fault
-
-    pub writable_at :
-        (m : Memory) → o.activities ≤ most_activities → m.store.traces ≡ o.traces →
-        length m.events ≡ o.space.events → length m.ends ≡ o.space.ends → Writable m p entry_at
-    writable_at m few traces events ends =
-        rw passes_at.laid (placed o p _ _ m w few traces events ends faultless_at)
-
-    pub bounded_at : Bounded o (moved p entry_at)
-    bounded_at = rw passes_at.laid (bounded_next o p w _ _ faultless_at)
-
-    pub accepted_at : IsAccepted (survey_of o (moved p entry_at) (place + 1) (lines (drop (at + 10) log)))
-    accepted_at = rw passes_at.laid passes_at.on
+    pub written_on : (m : Memory) → lines_written p m all ≡ lines_written (next_progress p entry.number) (line_written p (Some entry) m) rest
+    written_on m = ap (lines_written p m) e ∙ rw (sym is)
 
 -- ## What is written
 
@@ -111,7 +67,7 @@ module _ (store : Store) (m : Memory) (x place end value : ℕ) where
 
 module _ (m : Memory) (h : sound m ≡ true) (line : Line) where
   abbrev written_line : Progress → Memory → Memory
-  written_line p b = line_written p (Entry.Event line.number line.activity) b
+  written_line p b = line_written p (Some (event_of line)) b
 
   -- a line's event, written behind what stands before it
   abbrev Written : Prefix → Type 0
@@ -172,7 +128,7 @@ module _ (m : Memory) (h : sound m ≡ true) (line : Line) where
 -- the second pass, one line on, where the line is laid out
 lines_written_on :
     (p q : Progress) (b c : Memory) (line : Line) (rest : List Line) → line.laid_out ≡ true →
-    next_progress p line.number ≡ q → line_written p (Entry.Event line.number line.activity) b ≡ c →
+    next_progress p line.number ≡ q → line_written p (Some (event_of line)) b ≡ c →
     lines_written p b (line ∷ rest) ≡ lines_written q c rest
 lines_written_on p q b c line rest laid moves writes =
     rw laid
@@ -182,7 +138,7 @@ lines_written_on p q b c line rest laid moves writes =
 pub written :
     (m : Memory) → sound m ≡ true → (rest : List Line) (s : Prefix) (place : ℕ) → Acceptable m.store.activities (before_of s).traces →
     Bounded (room m) (progress_of (room m) s) → Numbered rest →
-    IsAccepted (survey_of (room m) (progress_of (room m) s) place rest) →
+    IsOk (survey_of (room m) (progress_of (room m) s) place rest) →
     lines_written (progress_of (room m) s) (with_store m.store (with_traces m (before_of s).traces)) rest ≡
     with_store m.store (with_traces m (spelled_from (before_of s) rest))
 written m h [] s place e w n a = refl
@@ -190,10 +146,10 @@ written m h (line ∷ rest) s place e w n a =
     let o = room m in
     let p = progress_of o s in
     let l = line_passes o p place line rest a in
-    let k = faultless o p w line.number line.activity l.no_fault in
+    let k = faultless o p w (event_of line) l.no_fault in
     let g = goes_on o line s e (n.0 l.laid) k in
-    let w' = bounded_next o p w line.number line.activity k in
-    let f = fitting o [] s place e w tt tt in
+    let w' = bounded_next o p w (event_of line) k in
+    let f = fitting o [] s place e w tt refl in
     let writes : written_line m h line p (with_store m.store (with_traces m (before_of s).traces)) ≡ with_store m.store (with_traces m (before_of g.next).traces) =
     line_is_written m h line s f (n.0 l.laid)
     ∙ ap (λ (b : Before). with_store m.store (with_traces m b.traces)) g.read in

@@ -1,17 +1,21 @@
 -- How the code goes over a log's lines, with numbers for what stands before a line. Nothing here has to be believed: proofs/Agree.antt
 -- and proofs/Written.antt show that it comes to `log_checks` and `spelled`.
 -- Assumes nothing.
-use Rattle.std.specs.Prelude.{ℕ, ◌+◌, ◌-◌, ◌*◌, ◌≤◌, ◌<◌, ◌≡◌, List, [], ◌∷◌, length, set, eqb, leb, ltb, if◌then◌else◌}
-use Rattle.answers.specs.declared.CountAnswer.{CountAnswer}
+use Rattle.std.specs.Prelude.{ℕ, ◌+◌, ◌-◌, ◌*◌, ◌≤◌, List, [], ◌∷◌, Option, Some, None, Result, Ok, Err, set, eqb, leb, ltb, if◌then◌else◌}
+use Rattle.std.specs.Result.{result_and}
+use Rattle.answers.specs.declared.Reason.{Reason}
+use Rattle.answers.specs.declared.Refusal.{Refusal}
 use Rattle.eventlog.specs.declared.Room.{Room}
-use Rattle.eventlog.specs.Store.{most_traces, longest_trace, Memory, with_kept, full}
+use Rattle.eventlog.specs.Store.{most_traces, longest_trace, Memory, lent, with_kept, full}
 use Rattle.columns.specs.declared.Entry.{Entry}
 use Rattle.columns.specs.declared.Progress.{Progress}
-use Rattle.columns.specs.declared.Step.{Step}
 use Rattle.columns.specs.Log.{Line}
 
-abbrev pub entry_of : Line → Entry
-entry_of line = if line.laid_out then Entry.Event line.number line.activity else Entry.Malformed
+abbrev pub event_of : Line → Entry
+event_of line = record { number = line.number; activity = line.activity }
+
+abbrev pub entry_of : Line → Option Entry
+entry_of line = if line.laid_out then Some (event_of line) else None
 
 -- before the first line
 abbrev pub at_start : Room → Progress
@@ -28,75 +32,55 @@ pub record Bounded (r : Room) (p : Progress) : Type 0 where
 abbrev pub room_at : Room → Progress → Room
 room_at r p = with_kept r (r.traces + p.added) p.last
 
-abbrev pub unplaced_of : Room → Progress → ℕ
-unplaced_of r p = if leb r.space.events p.last then 9 else 0
+abbrev pub placed_of : Room → Progress → Result (Unit {0}) Reason
+placed_of r p = if leb r.space.events p.last then Err Reason.NoSpace else Ok tt
 
--- the refusal of a laid_out line, 0 where there is none
-abbrev pub fault_of : Room → Progress → ℕ → ℕ → ℕ
-fault_of r p number activity =
-    if ltb number p.number then 5
-    else if leb r.activities activity then 6
-    else if eqb number p.number then if eqb p.left 0 then 7 else unplaced_of r p
-    else if full (room_at r p) then 8
-    else unplaced_of r p
-
--- the numbers can be taken one line on
-pub record Onward (p : Progress) (number : ℕ) : Type 0 where
-  pub few : p.added ≤ most_traces
-  pub reach : p.last ≤ longest_trace * most_traces
-  pub goes_on : number ≡ p.number → 1 ≤ p.left
+-- what a laid-out line is refused for
+abbrev pub fault_of : Room → Progress → Entry → Result (Unit {0}) Reason
+fault_of r p entry =
+    if ltb entry.number p.number then Err Reason.NumberFalls
+    else if leb r.activities entry.activity then Err Reason.Undeclared
+    else if eqb entry.number p.number then if eqb p.left 0 then Err Reason.TooLong else placed_of r p
+    else if full (room_at r p) then Err Reason.Full
+    else placed_of r p
 
 abbrev pub next_progress : Progress → ℕ → Progress
 next_progress p number =
     if eqb number p.number then record { number = number; left = p.left - 1; added = p.added; last = p.last + 1 }
     else record { number = number; left = longest_trace - 1; added = p.added + 1; last = p.last + 1 }
 
-abbrev pub step_of : Room → Progress → Entry → Step
-step_of r p Entry.Malformed = Step.Fault 4
-step_of r p (Entry.Event number activity) =
-    if eqb (fault_of r p number activity) 0 then Step.Next (next_progress p number) else Step.Fault (fault_of r p number activity)
+abbrev pub step_of : Room → Progress → Option Entry → Result Progress Reason
+step_of r p None = Err Reason.Malformed
+step_of r p (Some entry) = result_and (fault_of r p entry) (Ok (next_progress p entry.number))
 
 -- the answer from a line on, the `place`-th of its log
-abbrev pub survey_of : Room → Progress → ℕ → List Line → CountAnswer
-survey_of r p place [] = CountAnswer.Count p.added
+abbrev pub survey_of : Room → Progress → ℕ → List Line → Result ℕ Refusal
+survey_of r p place [] = Ok p.added
 survey_of r p place (line ∷ rest) =
     elim (step_of r p (entry_of line)) [
-      | Step.Next q ↦ survey_of r q (place + 1) rest
-      | Step.Fault number ↦ CountAnswer.Refused (record { number = number; detail = place })
+      | Ok q ↦ survey_of r q (place + 1) rest
+      | Err reason ↦ Err (record { reason = reason; detail = place })
     ]
-
-abbrev pub IsAccepted : CountAnswer → Type 0
-IsAccepted (CountAnswer.Count traces) = Unit {0}
-IsAccepted (CountAnswer.Refused refusal) = ⊥
 
 -- ## The second pass, over a memory whose record still tells the traces before the log
 
-abbrev pub moved : Progress → Entry → Progress
-moved p Entry.Malformed = p
-moved p (Entry.Event number activity) = next_progress p number
+-- the memory of a store with this room, and of what stands behind two references
+abbrev pub memory_in : Room → List ℕ → List ℕ → Memory
+memory_in r events ends = lent (record { activities = r.activities; traces = r.traces }) events ends
+
+abbrev pub moved : Progress → Option Entry → Progress
+moved p None = p
+moved p (Some entry) = next_progress p entry.number
 
 -- the event at the end of the last trace, and the end of that trace after it
-abbrev pub line_written : Progress → Entry → Memory → Memory
-line_written p Entry.Malformed m = m
-line_written p (Entry.Event number activity) m =
+abbrev pub line_written : Progress → Option Entry → Memory → Memory
+line_written p None m = m
+line_written p (Some entry) m =
     record {
       store = m.store;
-      events = set m.events p.last activity;
-      ends = set m.ends (m.store.traces + (next_progress p number).added - 1) (next_progress p number).last;
+      events = set m.events p.last entry.activity;
+      ends = set m.ends (m.store.traces + (next_progress p entry.number).added - 1) (next_progress p entry.number).last;
     }
-
--- A line's event has its places in the buffers.
-pub record Placed (m : Memory) (p : Progress) (number activity : ℕ) : Type 0 where
-  pub byte : activity < 256
-  pub onward : Onward p number
-  pub few_after : m.store.traces + (next_progress p number).added ≤ most_traces
-  pub some_trace : 1 ≤ m.store.traces + (next_progress p number).added
-  pub has_end : m.store.traces + (next_progress p number).added ≤ length m.ends
-  pub has_event : p.last < length m.events
-
-abbrev pub Writable : Memory → Progress → Entry → Type 0
-Writable m p Entry.Malformed = Unit {0}
-Writable m p (Entry.Event number activity) = Placed m p number activity
 
 -- the memory after the lines
 abbrev pub lines_written : Progress → Memory → List Line → Memory

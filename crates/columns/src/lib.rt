@@ -1,72 +1,32 @@
 // Logs in columns: lines, read.
 #![tactic(auto)]
 
-ghost use Rattle.std.specs.Prelude.{◌<◌, ◌≡◌, true, ◌∷◌, [], length, take, drop};
-ghost use Rattle.base.specs.Checks.{gives, reply};
+mod reading;
+
+ghost use Rattle.std.specs.Prelude.{◌≡◌, Ok, IsOk, length};
 ghost use Rattle.answers.specs.Answers.{count_said};
-ghost use Rattle.eventlog.specs.Store.{lent, sound, room as room_in};
-ghost use Rattle.eventlog.specs.Calls.{with_traces};
-ghost use Rattle.columns.specs.Log.{line_of, lines, spelled};
-ghost use Rattle.columns.specs.Survey.{at_start, entry_of, Bounded, Onward, room_at, unplaced_of, fault_of, next_progress, step_of, survey_of, IsAccepted, moved, line_written, Writable, lines_written};
-ghost use Rattle.columns.specs.Calls.{checks_of_read, Reads};
+ghost use Rattle.eventlog.specs.Store.{lent};
+ghost use Rattle.columns.specs.Log.{line_of, lines};
+ghost use Rattle.columns.specs.Survey.{entry_of, fault_of, next_progress, survey_of, line_written, lines_written, memory_in};
+ghost use Rattle.columns.specs.Calls.{Reads};
 
-use answers::{CountAnswer, Refusal};
-use eventlog::{LONGEST_TRACE, Room, Store};
-use fields::Field;
-
-// Document 01's numbers of the refusals that come from here.
-pub const MALFORMED: u8 = 4;
-
-pub const NUMBER_FALLS: u8 = 5;
-
-#[derive(Clone, Copy)]
-pub struct ReadResult {
-    pub store: Store,
-    pub answer: CountAnswer,
-}
+use answers::{Reason, Refusal};
+use eventlog::{SoundStore, Store};
+use reading::Reading;
 
 // A line's bytes, its line feed among them.
 pub const LINE: usize = 10;
 
 // What a line of a log holds: a trace's number and one of its events.
 #[derive(Clone, Copy)]
-enum Entry {
-    Malformed,
-    Event { number: u32, activity: u32 },
-}
-
-fn read_line(bytes: &[u8]) -> Entry
-    ensures { result ≡ entry_of (line_of bytes.now) }
-{
-    if bytes.len() != LINE || bytes[9] != fields::LINE_FEED {
-        return Entry::Malformed;
-    }
-    let Field::Number(number) = fields::read_field(&bytes[0..6]) else {
-        return Entry::Malformed;
-    };
-    if number < 1 {
-        return Entry::Malformed;
-    }
-    let Field::Number(activity) = fields::read_field(&bytes[6..9]) else {
-        return Entry::Malformed;
-    };
-    Entry::Event { number, activity }
-}
-
-// The line that starts at a place of the log, the last of which may be cut short.
-fn line_at(log: &[u8], at: usize) -> Entry
-    requires { at < length log.now }
-    ensures { result ≡ entry_of (line_of (take 10 (drop at log.now))) }
-{
-    if log.len() - at < LINE {
-        return Entry::Malformed;
-    }
-    let end = at + LINE;
-    read_line(&log[at..end])
+struct Entry {
+    number: u32,
+    activity: u32,
 }
 
 // How far a log is read: the number of the last line, how many events its trace can still take (none before the first line),
 // how many traces the lines spell, and the end of the last of them.
+// Number 0 and no Option before the first line: a line has at least 1, so the comparisons are the same there.
 #[derive(Clone, Copy)]
 struct Progress {
     number: u32,
@@ -75,209 +35,78 @@ struct Progress {
     last: u32,
 }
 
-#[derive(Clone, Copy)]
-enum Step {
-    Next(Progress),
-    Fault(u8),
-}
-
-fn unplaced(room: Room, p: Progress) -> u8
-    ensures { result ≡ unplaced_of room p }
+#[tactic(auto, using(crate::proofs::Lines::malformed_lines))]
+fn read_line(bytes: &[u8]) -> Option<Entry>
+    ensures { result ≡ entry_of (line_of bytes.now) }
 {
-    if room.space.events <= p.last as usize {
-        eventlog::NO_SPACE
-    } else {
-        0
+    if bytes.len() != LINE || bytes[9] != fields::LINE_FEED {
+        return None;
     }
-}
-
-// The room that is left so far.
-fn room_at(room: Room, p: Progress) -> Room
-    requires { Bounded room p }
-    ensures { result ≡ room_at room p }
-{
-    let space = room.space;
-    Room {
-        activities: room.activities,
-        traces: room.traces + p.added,
-        last: p.last,
-        space,
+    let number = fields::read_field(&bytes[0..6])?;
+    if number < 1 {
+        return None;
     }
-}
-
-// The number that a laid-out line is refused with, 0 where it has no fault.
-fn fault(room: Room, p: Progress, number: u32, activity: u32) -> u8
-    requires { Bounded room p }
-    ensures { result ≡ fault_of room p number activity }
-{
-    if number < p.number {
-        return NUMBER_FALLS;
-    }
-    if room.activities <= activity {
-        return eventlog::UNDECLARED;
-    }
-    if number == p.number {
-        if p.left == 0 {
-            return eventlog::TOO_LONG;
-        }
-        return unplaced(room, p);
-    }
-    if eventlog::is_full(room_at(room, p)) {
-        return eventlog::FULL;
-    }
-    unplaced(room, p)
-}
-
-fn next(p: Progress, number: u32) -> Progress
-    requires { Onward p number }
-    ensures { result ≡ next_progress p number }
-{
-    if p.number == number {
-        return Progress {
-            number,
-            left: p.left - 1,
-            added: p.added,
-            last: p.last + 1,
-        };
-    }
-    Progress {
-        number,
-        left: LONGEST_TRACE - 1,
-        added: p.added + 1,
-        last: p.last + 1,
-    }
-}
-
-// One line: how far the log is read after it, or the number that it is refused with.
-fn take_line(room: Room, p: Progress, entry: Entry) -> Step
-    requires { Bounded room p }
-    ensures { result ≡ step_of room p entry }
-{
-    match entry {
-        Entry::Malformed => Step::Fault(MALFORMED),
-        Entry::Event { number, activity } => {
-            let found = fault(room, p, number, activity);
-            if found == 0 {
-                Step::Next(next(p, number))
-            } else {
-                Step::Fault(found)
-            }
-        }
-    }
-}
-
-fn start(room: Room) -> Progress
-    ensures { result ≡ at_start room }
-{
-    Progress {
-        number: 0,
-        left: 0,
-        added: 0,
-        last: room.last,
-    }
+    let activity = fields::read_field(&bytes[6..9])?;
+    Some(Entry { number, activity })
 }
 
 // The answer to a log, before anything is written: the traces to be added, or the first line's refusal.
-fn survey(room: Room, log: &[u8]) -> CountAnswer
-    requires { Bounded room (at_start room) }
-    ensures { result ≡ survey_of room (at_start room) 1 (lines log.now) }
+fn survey(mut reading: Reading, log: &[u8]) -> Result<usize, Refusal>
+    ensures { result ≡ survey_of reading.room reading.at 1 (lines log.now) }
 {
-    let mut p = start(room);
-    let mut at: usize = 0;
-    let mut place: usize = 1;
-    while at < log.len() {
-        match take_line(room, p, line_at(log, at)) {
-            Step::Next(q) => {
-                p = q;
-            }
-            Step::Fault(number) => {
-                return CountAnswer::Refused(Refusal {
-                    number,
-                    detail: place,
-                });
-            }
-        }
-        at += LINE;
-        place += 1;
-    }
-    CountAnswer::Count(p.added as usize)
-}
-
-// One line's event and its trace's end, written.
-fn write_line(
-    store: Store,
-    p: Progress,
-    entry: Entry,
-    events: &mut [u8],
-    ends: &mut [u32],
-) -> Progress
-    requires { Writable (lent store events.old ends.old) p entry }
-    ensures progress { result ≡ moved p entry }
-    ensures written { lent store events.new ends.new ≡ line_written p entry (lent store events.old ends.old) }
-{
-    match entry {
-        Entry::Malformed => p,
-        Entry::Event { number, activity } => {
-            let after = next(p, number);
-            let event = p.last as usize;
-            let end = (store.traces + after.added - 1) as usize;
-            events[event] = activity as u8;
-            ends[end] = after.last;
-            after
+    for (k, line) in log.chunks(LINE).enumerate() {
+        // A match: by `map_err` and `?` the proof did not close, for what `map_err` says was not to be read at the goals.
+        match reading.take(line) {
+            Ok(after) => reading = after,
+            Err(reason) => return Err(reason.with(k + 1)),
         }
     }
+    Ok(reading.at.added as usize)
 }
 
-// The events and ends of a log that the first pass has accepted, written.
-fn write_lines(store: Store, events: &mut [u8], ends: &mut [u32], log: &[u8])
-    requires is_sound { sound (lent store events.old ends.old) ≡ true }
-    requires accepted { IsAccepted (survey_of (room_in (lent store events.old ends.old)) (at_start (room_in (lent store events.old ends.old))) 1 (lines log.now)) }
-    ensures { lent store events.new ends.new ≡
-        lines_written (at_start (room_in (lent store events.old ends.old))) (lent store events.old ends.old) (lines log.now) }
+// One line's event and its trace's end, written. Events and ends are lent apart, as in `read`.
+fn write_line(reading: Reading, entry: Entry, events: &mut [u8], ends: &mut [u32]) -> Reading
+    requires passes { fault_of reading.room reading.at entry ≡ Ok tt }
+    requires events { reading.room.space.events ≡ length events.old }
+    requires ends { reading.room.space.ends ≡ length ends.old }
+    ensures room { result.room ≡ reading.room }
+    ensures at { result.at ≡ next_progress reading.at entry.number }
+    ensures written { memory_in reading.room events.new ends.new ≡ line_written reading.at (Some entry) (memory_in reading.room events.old ends.old) }
 {
-    let mut p = start(eventlog::room_of(store, events, ends));
-    let mut at: usize = 0;
-    while at < log.len() {
-        p = write_line(store, p, line_at(log, at), events, ends);
-        at += LINE;
-    }
+    let after = reading.next(entry);
+    events[reading.at.last as usize] = entry.activity as u8;
+    ends[(after.room.traces + after.at.added - 1) as usize] = after.at.last;
+    after
 }
 
-// The answer of read, before anything is written.
-fn answer(store: Store, events: &[u8], ends: &[u32], log: &[u8]) -> CountAnswer
-    ensures { count_said result ≡ reply (checks_of_read (lent store events.now ends.now) log.now) (length (spelled log.now) ∷ []) }
+// The events and ends of a log that the first pass has accepted, written. They are lent apart, as in `read`.
+fn write_lines(mut reading: Reading, events: &mut [u8], ends: &mut [u32], log: &[u8])
+    requires accepted { IsOk (survey_of reading.room reading.at 1 (lines log.now)) }
+    requires events { reading.room.space.events ≡ length events.old }
+    requires ends { reading.room.space.ends ≡ length ends.old }
+    ensures { memory_in reading.room events.new ends.new ≡ lines_written reading.at (memory_in reading.room events.old ends.old) (lines log.now) }
 {
-    if !eventlog::is_sound(store, events, ends) {
-        return CountAnswer::Refused(Refusal {
-            number: eventlog::NOT_SOUND,
-            detail: 0,
-        });
-    }
-    survey(eventlog::room_of(store, events, ends), log)
-}
-
-// The log's traces, written behind those kept, where the answer was that so many are added.
-fn append(store: Store, events: &mut [u8], ends: &mut [u32], log: &[u8], added: usize) -> Store
-    requires { gives (added ∷ []) ≡ reply (checks_of_read (lent store events.old ends.old) log.now) (length (spelled log.now) ∷ []) }
-    ensures { lent result events.new ends.new ≡ with_traces (lent store events.old ends.old) (spelled log.now) }
-{
-    write_lines(store, events, ends, log);
-    Store {
-        activities: store.activities,
-        traces: store.traces + added as u32,
+    for line in log.chunks(LINE) {
+        if let Some(entry) = read_line(line) {
+            reading = write_line(reading, entry, events, ends);
+        }
     }
 }
 
 // The traces that a log in columns spells, added behind those kept; or the refusal of the first line with a fault, and nothing written.
-pub fn read(store: Store, events: &mut [u8], ends: &mut [u32], log: &[u8]) -> ReadResult
-    ensures { Reads (lent store events.old ends.old) log.now (count_said result.answer) (lent result.store events.new ends.new) }
+// The record and its buffers are lent apart, as C lends them.
+pub fn read(
+    store: &mut Store,
+    events: &mut [u8],
+    ends: &mut [u32],
+    log: &[u8],
+) -> Result<usize, Refusal>
+    ensures { Reads (lent store.old events.old ends.old) log.now (count_said result) (lent store.new events.new ends.new) }
 {
-    let answer = answer(store, events, ends, log);
-    match answer {
-        CountAnswer::Refused(_) => ReadResult { store, answer },
-        CountAnswer::Count(added) => ReadResult {
-            store: append(store, events, ends, log, added),
-            answer,
-        },
-    }
+    let sound_store = SoundStore::new(*store, events, ends).ok_or(Reason::NotSound)?;
+    let start = Reading::start(sound_store);
+    let added = survey(start, log)?;
+    write_lines(start, events, ends, log);
+    store.traces += added as u32;
+    Ok(added)
 }

@@ -1,33 +1,32 @@
 -- One line on, a line that is refused, and the end of the log, in the words of the invariant.
-use Rattle.std.proofs.Common.{◌≡◌, ◌∙◌, sym, ap, arith, take, drop}
-use Rattle.columns.specs.declared.Step.{Step}
-use Rattle.columns.specs.Log.{line_of}
-use Rattle.columns.specs.Survey.{entry_of, step_of}
-use Rattle.columns.proofs.LineSteps.{bounded_step, survey_on, survey_stops, survey_ends}
+use Rattle.std.proofs.Common.{◌+◌, ◌∙◌, sym, ap}
+use Rattle.std.specs.Iterator.Adapters.{enumerate_source, enumerate_count}
+use Rattle.columns.specs.Survey.{survey_of}
+use Rattle.columns.proofs.Lines.{chunk_line, no_chunk}
+use Rattle.columns.proofs.LineSteps.{survey_on, survey_stops}
 use Rattle.columns.proofs.survey.Goals as goal
 
-pub returns-in-Fault : goal.returns-in-Fault
-returns-in-Fault c =
-    let o = c.args.room in
-    let at = c.loop-at in
-    let log = c.args.log.now in
-    let stops : step_of o at.p (entry_of (line_of (take 10 (drop at.at log)))) ≡ Step.Fault c.in-Fault.number =
-    ap (step_of o at.p) (sym c.line_at.ensures) ∙ sym c.in-Fault.ensures in
-    sym (survey_stops o at.p at.place log at.at c.loop-at-test.true c.in-Fault.number stops) ∙ at.invariant.2
-
-pub loop-at-preserved : goal.loop-at-preserved
-loop-at-preserved c =
-    let o = c.args.room in
-    let at = c.loop-at in
-    let log = c.args.log.now in
-    let entry = entry_of (line_of (take 10 (drop at.at log))) in
-    let on : step_of o at.p entry ≡ Step.Next c.in-Next.q = ap (step_of o at.p) (sym c.line_at.ensures) ∙ sym c.in-Next.ensures in (
-      bounded_step o at.p at.invariant.0 entry c.in-Next.q on,
-      omega arith,
-      sym (survey_on o at.p at.place log at.at c.loop-at-test.true c.in-Next.q on) ∙ at.invariant.2,
+pub loop-k-preserved : goal.loop-k-preserved
+loop-k-preserved c =
+    let at = c.loop-k in
+    let steps = c.in-Some.ensures.steps in
+    let cut = chunk_line (enumerate_source at.k-iterator) (enumerate_source c.next.new.self) c.in-Some.line at.invariant.0 steps.0 in
+    let taken = c.in-Ok.ensures in (
+      steps.0.0 ∙ at.invariant.0,
+      rw (taken.0, steps.2)
+          (sym (survey_on at.reading.room at.reading.at (enumerate_count at.k-iterator + 1) cut taken.1) ∙ at.invariant.1),
     )
+
+pub returns-in-Err : goal.returns-in-Err
+returns-in-Err c =
+    let at = c.loop-k in
+    let steps = c.in-Some.ensures.steps in
+    let cut = chunk_line (enumerate_source at.k-iterator) (enumerate_source c.next.new.self) c.in-Some.line at.invariant.0 steps.0 in
+    rw (c.with.ensures, steps.1)
+    (sym (survey_stops at.reading.room at.reading.at (enumerate_count at.k-iterator + 1) cut c.in-Err.ensures) ∙ at.invariant.1)
 
 pub returns : goal.returns
 returns c =
-    let at = c.loop-at in
-    sym (survey_ends c.args.room at.p at.place c.args.log.now at.at c.loop-at-test.false) ∙ at.invariant.2
+    let at = c.loop-k in
+    let none = no_chunk (enumerate_source at.k-iterator) (enumerate_source c.next.new.self) c.in-None.ensures.steps.0 in
+    sym (ap (survey_of at.reading.room at.reading.at (enumerate_count at.k-iterator + 1)) none) ∙ at.invariant.1

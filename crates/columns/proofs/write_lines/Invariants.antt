@@ -1,17 +1,17 @@
--- The loop's invariant: what is written from here on comes to what the whole log writes, and the rest is accepted. The measure is what is
--- left of the log.
-use Rattle.std.proofs.Common.{ℕ, length, drop, ◌-◌, ◌≡◌}
-use Rattle.eventlog.specs.Store.{lent, room}
+-- The loop's invariant: what is written from here on comes to what the whole log writes, and the rest is accepted.
+use Rattle.std.proofs.Common.{ℕ, ◌≡◌, IsOk}
+use Rattle.std.specs.Slice.Iter.{chunks_rest, chunks_size}
 use Rattle.columns.specs.Log.{lines}
-use Rattle.columns.specs.Survey.{Bounded, at_start, survey_of, IsAccepted, lines_written}
+use Rattle.columns.specs.Survey.{survey_of, memory_in, lines_written}
 use Rattle.columns.proofs.write_lines.Given as goal
 
-abbrev pub invariant-loop-at : goal.invariant-loop-at
-invariant-loop-at l =
-    let start = lent l.store l.fn.events l.fn.ends in
-    Bounded (room start) l.p × ((place : ℕ) × IsAccepted (survey_of (room start) l.p place (lines (drop l.at l.log))))
-    × (lines_written l.p (lent l.store l.events l.ends) (lines (drop l.at l.log)) ≡ lines_written (at_start (room start)) start (lines l.log))
-    × (length l.events ≡ length l.fn.events) × (length l.ends ≡ length l.fn.ends)
-
-abbrev pub decreases-loop-at : goal.decreases-loop-at
-decreases-loop-at l = length l.log - l.at
+abbrev pub invariant-loop-line : goal.invariant-loop-line
+invariant-loop-line l =
+    let rest = lines (chunks_rest l.line-iterator) in
+    let start = memory_in l.fn.reading.room l.fn.events l.fn.ends in
+    record {
+      ten : chunks_size l.line-iterator ≡ 10;
+      same_room : l.reading.room ≡ l.fn.reading.room;
+      accepted : (place : ℕ) × IsOk (survey_of l.reading.room l.reading.at place rest);
+      writes : lines_written l.reading.at (memory_in l.reading.room l.events l.ends) rest ≡ lines_written l.fn.reading.at start (lines l.log);
+    }
