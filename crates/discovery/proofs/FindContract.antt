@@ -5,17 +5,19 @@ use mathlib.Core.Path.{◌≡◌, refl, sym, ap, ◌∙◌}
 use mathlib.Core.Bool.{Bool, true, false}
 use mathlib.Core.List.{List, [], ◌∷◌}
 use native.Mathlib.Omega.{arith}
-use borrow.Author.Tests.{ltb-true, ltb-false, lt-ltb, le-ltb, ne_eqb, not-false}
+use borrow.Author.Tests.{ltb-false, lt-ltb, le-ltb, ne_eqb, not-false}
 use lib.Dec.{eqb, ltb}
 use lib.ListN.{length}
-use Rattle.base.specs.Checks.{Reply, gives, refused, reply}
+use Rattle.base.specs.Checks.{gives, reply}
 use Rattle.std.specs.Prelude.{if◌then◌else◌}
 use Rattle.base.proofs.Checks.{NoneFail}
-use Rattle.base.proofs.Outcomes.{outcome_refused, outcome_accepted}
+use Rattle.base.proofs.Outcomes.{outcome_accepted}
 use Rattle.base.proofs.Lists.{count_at_most}
 use Rattle.base.proofs.Stores.{sets_none}
 use Rattle.eventlog.specs.Store.{Memory, sound}
-use Rattle.discovery.specs.declared.Fit.TheVariants.{Fits, Short}
+use Rattle.answers.specs.declared.Reason.TheVariants.{ListTooShort}
+use Rattle.answers.specs.declared.Refusal.{Refusal}
+use Rattle.std.specs.Prelude.{Result, Ok, Err}
 use Rattle.discovery.specs.declared.list.Tally.{Tally}
 use Rattle.discovery.specs.declared.Settings.{Settings}
 use Rattle.declare.specs.Constraints.{constraints}
@@ -45,58 +47,41 @@ module _ {q : Question} {list list' : List ℕ} {t : Tally} (p : Passes q (const
 -- ## Whether the list fits
 
 module _ (k : ℕ) (list : List ℕ) where
-  pub list_fits : numbers * k ≤ length list → Fits ≡ fit_of k list
+  pub list_fits : numbers * k ≤ length list → Ok tt ≡ fit_of k list
   list_fits fits = rw (le-ltb (length list) (numbers * k) fits)
 
-  pub list_short : length list < numbers * k → Short k ≡ fit_of k list
+  pub list_short : length list < numbers * k → Err (record { reason = ListTooShort; detail = k }) ≡ fit_of k list
   list_short short = rw (lt-ltb (length list) (numbers * k) short)
 
-  pub fits_told : fit_of k list ≡ Fits → numbers * k ≤ length list
-  fits_told e = go (ltb (length list) (numbers * k)) refl e
+  pub fits_told : {u : Unit {0}} → fit_of k list ≡ Ok u → numbers * k ≤ length list
+  fits_told {u = u} e = go (ltb (length list) (numbers * k)) refl e
     where
-      go : (t : Bool) → ltb (length list) (numbers * k) ≡ t → (if t then Short k else Fits) ≡ Fits → numbers * k ≤ length list
+      short : Result (Unit {0}) Refusal
+      short = Err (record { reason = ListTooShort; detail = k })
+
+      go : (t : Bool) → ltb (length list) (numbers * k) ≡ t → (if t then short else Ok tt) ≡ Ok u → numbers * k ≤ length list
       go true h e = let z : ◌≡◌ {A = ℕ} 0 1 = cc in absurd (omega arith)
       go false h e = ltb-false _ _ h
 
-  pub short_told : (needed : ℕ) → fit_of k list ≡ Short needed → (needed ≡ k) × (length list < numbers * k)
-  short_told needed e = go (ltb (length list) (numbers * k)) refl e
-    where
-      go : (t : Bool) → ltb (length list) (numbers * k) ≡ t → (if t then Short k else Fits) ≡ Short needed → (needed ≡ k) × (length list < numbers * k)
-      go true h e = (cc, ltb-true _ _ h)
-      go false h e = let z : ◌≡◌ {A = ℕ} 0 1 = cc in absurd (omega arith)
-
 -- room for all constraints is enough
-pub all_fit : (q : Question) (list : List ℕ) → length (constraints q.activities) ≤ length list / numbers → Fits ≡ fit_of (length (listed q)) list
+pub all_fit : (q : Question) (list : List ℕ) → length (constraints q.activities) ≤ length list / numbers → Ok tt ≡ fit_of (length (listed q)) list
 unfolding listed
 all_fit q list fits = list_fits _ list (omega (arith, count_at_most (is_listed q) (constraints q.activities)))
 
 -- ## Answers
 
--- what is known where the first three checks of find pass
-pub record Findable (m : Memory) (settings : Settings) : Type 0 where
-  pub is_sound : sound m ≡ true
-  pub ranged : threshold_in_range settings ≡ true
-  pub some : trace_count (asked m settings) ≡ 0 → ⊥
-
-module _ (m : Memory) (settings : Settings) (list : List ℕ) (f : Findable m settings)
-    (k : ℕ) (e : k ≡ length (listed (asked m settings))) where
-  abbrev said : Reply
-  said = reply (checks_of_find m settings list) (find_values (asked m settings))
-
-  pub finds_short : length list < numbers * k → Finds m settings list (refused 10 k) list
-  finds_short short =
-      let not_None = ne_eqb (trace_count (asked m settings)) 0 f.some in
-      let says : said ≡ refused 10 k = rw e (simp (f.is_sound, f.ranged, not_None, lt-ltb (length list) _ (rw e at short))) in
-      outcome_refused (sym says) refl
-
+-- where each check passes, find answers by what passing over the constraints makes of the list
+module _ (m : Memory) (settings : Settings) {list list' : List ℕ} {t : Tally} {traces : ℕ} {u : Unit {0}} where
   pub finds_listed :
-      numbers * k ≤ length list → (t : Tally) (list' : List ℕ) (traces : ℕ) → traces ≡ trace_count (asked m settings) →
+      sound m ≡ true → threshold_in_range settings ≡ true → traces ≡ trace_count (asked m settings) → (traces ≡ 0 → ⊥) →
+      fit_of (length (listed (asked m settings))) list ≡ Ok u →
       Passes (asked m settings) (constraints m.store.activities) none_yet list t list' →
       Finds m settings list (gives (t.listed ∷ t.replayed ∷ traces ∷ [])) list'
-  finds_listed fits t list' traces same p =
+  finds_listed is_sound ranged same some fit p =
       let q = asked m settings in
-      let not_None = ne_eqb (trace_count q) 0 f.some in
-      let says : said ≡ gives (find_values q) = simp (f.is_sound, f.ranged, not_None, le-ltb (length list) _ (rw e at fits)) in
+      let not_none = ne_eqb (trace_count q) 0 (λ none. some (same ∙ none)) in
+      let says : reply (checks_of_find m settings list) (find_values q) ≡ gives (find_values q) =
+      simp (is_sound, ranged, not_none, le-ltb (length list) _ (fits_told _ list fit)) in
       let values : t.listed ∷ t.replayed ∷ traces ∷ [] ≡ find_values q = cc (passed_listed p, passed_replayed p, same) in
       outcome_accepted (ap gives values ∙ sym says) refl (passed_written p)
 

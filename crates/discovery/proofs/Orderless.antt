@@ -13,7 +13,8 @@ use lib.Dec.{eqb}
 use Rattle.std.specs.Prelude.{if◌then◌else◌}
 use Rattle.declare.specs.Meaning.{fulfilled}
 use Rattle.declare.specs.declared.constraints.Constraint.{Constraint}
-use Rattle.base.specs.Lists.{non_empty, filter, count, flat_map, equal_lists}
+use Rattle.std.specs.List.{filter}
+use Rattle.base.specs.Lists.{non_empty, count, flat_map, equal_lists}
 use Rattle.discovery.specs.declared.Settings.{Settings}
 use Rattle.discovery.specs.Question.{Question, question_over, trace_count, meets_threshold, fulfilments, class_of, support, always, survives, is_listed, layout}
 use Rattle.discovery.specs.Claims.{Alike}

@@ -1,13 +1,14 @@
 -- Find: what it says and leaves, as definitions of what it was given. The contract cites these.
 -- Assumes nothing.
-use Rattle.std.specs.Prelude.{ℕ, ◌*◌, Bool, not, List, [], ◌∷◌, ◌++◌, eqb, ltb, length}
+use Rattle.std.specs.Prelude.{ℕ, ◌*◌, Bool, not, List, [], ◌∷◌, ◌++◌, eqb, ltb, length, Result}
 use Rattle.std.proofs.lemmas.List.Edits.{sets}
 use Rattle.base.specs.Logic.{in_range}
-use Rattle.base.specs.Checks.{Check, ◌refuses◌with◌, Reply, gives, Outcome}
-use Rattle.answers.specs.Answers.{refusal_said}
+use Rattle.base.specs.Checks.{Check, ◌refuses◌with◌, Reply, Outcome}
+use Rattle.answers.specs.Answers.{said_by}
+use Rattle.answers.specs.declared.Refusal.{Refusal}
 use Rattle.eventlog.specs.Store.{Memory}
 use Rattle.eventlog.specs.Calls.{unsound}
-use Rattle.discovery.specs.declared.FindAnswer.{FindAnswer}
+use Rattle.discovery.specs.declared.Found.{Found}
 use Rattle.discovery.specs.declared.Settings.{Settings}
 use Rattle.discovery.specs.Question.{Question, asked, trace_count, listed, replayed, numbers, layout}
 
@@ -41,9 +42,8 @@ abbrev pub with_list : Question → List ℕ → List ℕ
 with_list q list = sets list 0 (layout q (listed q))
 
 -- document 01's number and values for each case
-abbrev pub find_said : FindAnswer → Reply
-find_said (FindAnswer.Listed found) = gives (found.constraints ∷ found.replayed ∷ found.traces ∷ [])
-find_said (FindAnswer.Refused refusal) = refusal_said refusal
+abbrev pub find_said : Result Found Refusal → Reply
+find_said = said_by (λ found. found.constraints ∷ found.replayed ∷ found.traces ∷ [])
 
 -- `find` in memory m, lent a slice that holds `list`
 abbrev pub Finds : Memory → Settings → List ℕ → Reply → List ℕ → Type 0

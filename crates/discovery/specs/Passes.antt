@@ -1,26 +1,27 @@
 -- What the inner functions of find promise: replay of a constraint over the store, and what passing over constraints finds and writes.
 -- Assumes nothing.
-use Rattle.std.specs.Prelude.{ℕ, ◌+◌, ◌*◌, ◌≤◌, ◌≡◌, Bool, true, false, List, ltb, length, if◌then◌else◌}
+use Rattle.std.specs.Prelude.{ℕ, ◌+◌, ◌*◌, ◌≤◌, ◌≡◌, Bool, true, false, List, ltb, length, if◌then◌else◌, Result, Ok, Err}
 use Rattle.std.proofs.lemmas.List.Edits.{sets}
 use Rattle.declare.specs.declared.Verdict.{Verdict}
 use Rattle.declare.specs.declared.Verdict.TheVariants.{Fulfilled, NotActivated, Violated}
 use Rattle.declare.specs.declared.constraints.Constraint.{Constraint}
 use Rattle.declare.specs.declared.Automaton.{Automaton}
-use Rattle.declare.specs.Automata.{automaton as automaton_of, moves_of, start, advance_all, verdict_by}
+use Rattle.declare.specs.declared.Moves.{Moves}
+use Rattle.declare.specs.Automata.{automaton as automaton_of, start, advance_all, verdict_by}
 use Rattle.declare.specs.Constraints.{Over}
-use Rattle.eventlog.specs.Store.{Memory, sound}
-use Rattle.discovery.specs.declared.Measure.{Measure}
+use Rattle.answers.specs.declared.Refusal.{Refusal}
+use Rattle.answers.specs.declared.Reason.TheVariants.{ListTooShort}
+use Rattle.eventlog.specs.SoundStore.{memory_of}
+use Rattle.discovery.specs.declared.query.Query.{Query}
 use Rattle.discovery.specs.declared.replay.Replayed.{Replayed}
-use Rattle.discovery.specs.declared.Fit.{Fit}
-use Rattle.discovery.specs.declared.Fit.TheVariants.{Fits, Short}
 use Rattle.discovery.specs.declared.list.Tally.{Tally}
-use Rattle.base.specs.Lists.{filter, count}
-use Rattle.discovery.specs.Question.{Question, asked, trace_count, fulfilments, survives, is_listed, numbers, layout}
+use Rattle.std.specs.List.{filter}
+use Rattle.base.specs.Lists.{count}
+use Rattle.discovery.specs.Question.{Question, asked, fulfilments, survives, is_listed, numbers, layout}
 
--- the memory is sound, and R is that of what is asked of it
-pub record Measured (m : Memory) (measure : Measure) : Type 0 where
-  pub is_sound : sound m ≡ true
-  pub counted : measure.traces ≡ trace_count (asked m measure.settings)
+-- what a query asks
+abbrev pub asked_by : Query → Question
+asked_by query = asked (memory_of query.sound) query.settings
 
 -- a constraint over the declared activities that pruning keeps, beside its template's automaton
 pub record Kept (q : Question) (automaton : Automaton) (c : Constraint) : Type 0 where
@@ -28,20 +29,15 @@ pub record Kept (q : Question) (automaton : Automaton) (c : Constraint) : Type 0
   pub survived : survives q c ≡ true
   pub of_template : automaton ≡ automaton_of c.template
 
--- moves and verdicts are those of the constraint, by its template's automaton
-pub record MovesFor (c : Constraint) (moves : List ℕ) (verdicts : ℕ) : Type 0 where
-  pub same_moves : moves ≡ moves_of (automaton_of c.template) c.a c.b
-  pub same_verdicts : verdicts ≡ (automaton_of c.template).verdicts
-
 -- a trace is fulfilled where the verdict says so
 abbrev pub is_fulfilled : Verdict → Bool
 is_fulfilled Fulfilled = true
 is_fulfilled NotActivated = false
 is_fulfilled Violated = false
 
--- replay by moves and verdicts says that a trace is fulfilled
-abbrev pub replays_fulfilled : List ℕ → ℕ → List ℕ → Bool
-replays_fulfilled moves verdicts trace = is_fulfilled (verdict_by verdicts (advance_all moves start trace))
+-- replay by a constraint's moves says that a trace is fulfilled
+abbrev pub replays_fulfilled : Moves → List ℕ → Bool
+replays_fulfilled moves trace = is_fulfilled (verdict_by moves.verdicts (advance_all moves.to start trace))
 
 -- a constraint that pruning keeps, replayed over the traces: its fulfilled traces, and one more replayed than before
 pub record Replays (q : Question) (c : Constraint) (replayed : ℕ) (r : Replayed) : Type 0 where
@@ -67,5 +63,6 @@ pub record Passes (q : Question) (cs : List Constraint) (t : Tally) (list : List
   pub written : list' ≡ sets list (numbers * t.listed) (layout q (filter (is_listed q) cs))
 
 -- the slice has room for so many constraints, or not
-abbrev pub fit_of : ℕ → List ℕ → Fit
-fit_of needed list = if ltb (length list) (numbers * needed) then Short needed else Fits
+abbrev pub fit_of : ℕ → List ℕ → Result (Unit {0}) Refusal
+fit_of needed list =
+    if ltb (length list) (numbers * needed) then Err (record { reason = ListTooShort; detail = needed }) else Ok tt

@@ -8,7 +8,8 @@ use Rattle.discovery.specs.declared.Settings.{Settings}
 use Rattle.discovery.specs.declared.classes.Class.{Class}
 use Rattle.discovery.specs.declared.classes.Class.TheVariants.{WithA, All, Either, Both}
 use Rattle.declare.specs.declared.constraints.Constraint.{Constraint}
-use Rattle.base.specs.Lists.{non_empty, filter, count, flat_map}
+use Rattle.std.specs.List.{filter}
+use Rattle.base.specs.Lists.{non_empty, count, flat_map}
 use Rattle.declare.specs.Constraints.{constraints}
 
 -- A question to the finder: how many activities are declared, the traces, and the settings.

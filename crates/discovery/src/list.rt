@@ -1,18 +1,19 @@
 // The list: passing over the constraints, and writing those to be listed.
-ghost use Rattle.std.specs.Prelude.{◌*◌, ◌≡◌, [], ◌∷◌, set};
+ghost use Rattle.std.specs.Prelude.{◌*◌, ◌≡◌, [], ◌∷◌, length, set};
 ghost use Rattle.std.proofs.lemmas.List.Edits.{sets};
-ghost use Rattle.declare.specs.Automata.{automaton as automaton_of};
 ghost use Rattle.declare.specs.Constraints.{constraints};
-ghost use Rattle.eventlog.specs.Store.{lent};
-ghost use Rattle.discovery.specs.Question.{asked, numbers};
-ghost use Rattle.discovery.specs.Passes.{Measured, Kept, Passes, TallyFits, none_yet};
+ghost use Rattle.discovery.specs.Question.{listed, numbers};
+ghost use Rattle.discovery.specs.Passes.{asked_by, Kept, Passes, TallyFits, none_yet, fit_of};
 
-use crate::{Measure, NUMBERS, classes, replay};
-use declare::{Automaton, Constraint};
-use eventlog::Store;
+use crate::NUMBERS;
+use crate::at_hand::AtHand;
+use crate::classes::Class;
+use crate::query::Query;
+use answers::{Reason, Refusal};
+use declare::{Automaton, Constraint, Constraints};
 
 // How many constraints so far are listed, and how many were replayed.
-#[derive(Clone, Copy)]
+#[derive(Clone, Copy, Debug, PartialEq, Eq)]
 pub struct Tally {
     pub listed: u32,
     pub replayed: u32,
@@ -28,94 +29,77 @@ fn put(list: &mut [u16], at: usize, value: u16)
 }
 
 // The four numbers of a listed constraint, behind those of the constraints listed before it.
+// How many these are stands beside the list and is no length of it: the first pass counts them, and is lent none of the list.
 fn write(list: &mut [u16], listed: u32, c: Constraint, count: u16)
     ensures { list.new ≡ sets list.old (numbers * listed) (c.template ∷ c.a ∷ c.b ∷ count ∷ []) }
 {
     let at = NUMBERS * (listed as usize);
-    put(list, at, c.template as u16);
-    put(list, at + 1, c.a as u16);
-    put(list, at + 2, c.b as u16);
+    put(list, at, u16::from(c.template));
+    put(list, at + 1, u16::from(c.a));
+    put(list, at + 2, u16::from(c.b));
     put(list, at + 3, count);
 }
 
-// A template's automaton: the one at hand where it is that template's, or else a new one. Made for each constraint it would be most of the
-// work on small logs.
-fn at_hand(automaton: Automaton, known: u8, template: u8) -> Automaton
-    requires { automaton ≡ automaton_of known }
-    ensures { result ≡ automaton_of template }
-{
-    if known == template {
-        return automaton;
-    }
-    declare::automaton_of(template)
-}
-
-// Passes over one constraint that pruning keeps: it is replayed, and written where its count meets the threshold.
-fn consider(
-    store: Store,
-    events: &[u8],
-    ends: &[u32],
-    measure: Measure,
-    list: &mut [u16],
-    tally: Tally,
-    automaton: Automaton,
-    c: Constraint,
-) -> Tally
-    requires measured { Measured (lent store events.now ends.now) measure }
-    requires kept { Kept (asked (lent store events.now ends.now) measure.settings) automaton c }
-    requires tally_fits { TallyFits store.activities tally }
-    ensures { Passes (asked (lent store events.now ends.now) measure.settings) (c ∷ []) tally list.old result list.new }
-{
-    let settings = measure.settings;
-    let replay = replay::replay(store, events, ends, settings, automaton, c, tally.replayed);
-    let fulfilled = replay.fulfilled;
-    let replayed = replay.replayed;
-    if !classes::meets(measure, fulfilled) {
-        return Tally {
-            listed: tally.listed,
-            replayed,
+impl<'a> Query<'a> {
+    // Passes over one constraint that pruning keeps: it is replayed, and written where its count meets the threshold.
+    fn consider(self, c: Constraint, automaton: Automaton, tally: Tally, list: &mut [u16]) -> Tally
+        requires kept { Kept (asked_by self) automaton c }
+        requires tally_fits { TallyFits self.sound.store.activities tally }
+        ensures { Passes (asked_by self.entry) (c ∷ []) tally list.old result list.new }
+    {
+        let replay = self.replay(c, automaton, tally.replayed);
+        let tally = Tally {
+            replayed: replay.replayed,
+            ..tally
         };
-    }
-    write(list, tally.listed, c, fulfilled as u16);
-    Tally {
-        listed: tally.listed + 1,
-        replayed,
-    }
-}
-
-// Passes over all constraints in their order: counts those listed and replayed, and writes the list as far as the slice goes. What
-// pruning drops is not replayed. The automaton made last stays at hand: the next constraint of its template takes it again.
-pub(crate) fn pass(
-    store: Store,
-    events: &[u8],
-    ends: &[u32],
-    measure: Measure,
-    list: &mut [u16],
-) -> Tally
-    requires { Measured (lent store events.now ends.now) measure }
-    ensures { Passes (asked (lent store events.now ends.now) measure.settings) (constraints store.activities) none_yet list.old result list.new }
-{
-    let n = store.activities as u8;
-    let all = declare::constraint_count(n);
-    let mut found = Tally {
-        listed: 0,
-        replayed: 0,
-    };
-    let mut c = declare::first_constraint();
-    let mut class = classes::class_of(c.template);
-    let mut known: u8 = 0;
-    let mut automaton = declare::no_automaton();
-    let mut place: u32 = 0;
-    while place < all {
-        if classes::survives(store, events, ends, measure, class, c) {
-            automaton = at_hand(automaton, known, c.template);
-            known = c.template;
-            found = consider(store, events, ends, measure, list, found, automaton, c);
+        if !self.meets(replay.fulfilled) {
+            return tally;
         }
-        let next = declare::next_constraint(n, c);
-        class = classes::class_next(class, c.template, next.template);
-        c = next;
-        place += 1;
+        write(list, tally.listed, c, replay.fulfilled as u16);
+        Tally {
+            listed: tally.listed + 1,
+            ..tally
+        }
     }
-    found
+
+    // Passes over all constraints in their order: counts those listed and replayed, and writes the list as far as the slice goes. What
+    // pruning drops is not replayed.
+    #[tactic(auto, using(crate::proofs::Counting::few_activities))]
+    pub(crate) fn pass(self, list: &mut [u16]) -> Tally
+        ensures { Passes (asked_by self.entry) (constraints self.entry.sound.store.activities) none_yet list.old result list.new }
+    {
+        let mut tally = Tally {
+            listed: 0,
+            replayed: 0,
+        };
+        // At first of no template, number 0: with an Option each step would ask whether there is one.
+        let mut class = AtHand::<Class>::new(0);
+        let mut automaton = AtHand::<Automaton>::new(0);
+        for c in Constraints::over(self.sound.store.activities as u8) {
+            class = class.on_to(c.template);
+            if self.survives(c, class.made) {
+                automaton = automaton.on_to(c.template);
+                tally = self.consider(c, automaton.made, tally, list);
+            }
+        }
+        tally
+    }
+
+    // Looks whether the list fits, and leaves the slice as it was. Where there is room for all constraints, nothing is replayed for it.
+    #[tactic(auto, using(crate::proofs::Counting::few_activities))]
+    pub(crate) fn look(self, list: &mut [u16]) -> Result<(), Refusal>
+        ensures fit { result ≡ fit_of (length (listed (asked_by self.entry))) list.old }
+        ensures list_unchanged { list.new ≡ list.old }
+    {
+        let all = declare::constraint_count(self.sound.store.activities as u8);
+        if all as usize <= list.len() / NUMBERS {
+            return Ok(());
+        }
+        let needed = self.pass(&mut list[0..0]);
+        let listed = needed.listed as usize;
+        if list.len() < NUMBERS * listed {
+            return Err(Reason::ListTooShort.with(listed));
+        }
+        Ok(())
+    }
 }

@@ -1,25 +1,24 @@
 -- The list is that of the pass over the constraints, where every check passed.
-use mathlib.Core.Path.{◌≡◌, refl, sym, ◌∙◌}
-use mathlib.Core.Bool.{true}
-use Rattle.eventlog.specs.Store.{Memory, sound, lent, kept}
-use Rattle.discovery.specs.Calls.{threshold_in_range}
-use Rattle.discovery.proofs.FindContract.{fits_told, Findable, finds_listed}
-use Rattle.std.proofs.Common.{ℕ, refl, ◌≡◌, true}
-use Rattle.base.specs.Lists.{count, non_empty}
-use Rattle.discovery.specs.declared.Settings.{Settings}
+use Rattle.std.proofs.Common.{length, sym, ap, subst, ◌∙◌, ◌≡◌, rules}
+use Rattle.declare.specs.Constraints.{constraints}
+use Rattle.eventlog.specs.Store.{lent}
+use Rattle.eventlog.specs.SoundStore.{memory_of}
+use Rattle.discovery.specs.Question.{asked, trace_count, listed}
+use Rattle.discovery.specs.Passes.{fit_of, Passes, none_yet}
+use Rattle.discovery.proofs.FindContract.{finds_listed}
 use Rattle.discovery.proofs.find.Goals as goal
-
--- what is known behind the third test
-findable :
-    (m : Memory) (settings : Settings) (traces : ℕ) → true ≡ sound m → true ≡ threshold_in_range settings →
-    traces ≡ count non_empty (kept m) → (traces ≡ 0 → ⊥) → Findable m settings
-findable m settings traces s r e some = record { is_sound = sym s; ranged = sym r; some = λ none. some (e ∙ none) }
 
 pub returns : goal.returns
 returns c =
     let m = lent c.args.store c.args.events.now c.args.ends.now in
-    let known =
-    findable m c.args.settings c.trace_count-traces.result (sym c.if-not-is_sound.false ∙ c.is_sound.ensures)
-    (sym c.if-not-in_range.false ∙ c.in_range.ensures) c.trace_count-traces.ensures c.if-traces-eq0.false in
-    let fits = fits_told _ c.args.list.now (sym c.look-fit.ensures.fit ∙ c.in-Fits.is) in
-    finds_listed m _ _ known _ refl fits _ _ _ c.trace_count-traces.ensures (rw c.look-fit.ensures.list_unchanged at c.pass-found.ensures)
+    let list = c.args.list.now in
+    let memory : memory_of c.in_ok-sound.sound ≡ m = search rules in
+    let asks = c.new-query.ensures ∙ ap (λ m. asked m c.args.settings) memory in
+    finds_listed m c.args.settings
+    (rw memory at c.in_ok-sound.sound.is_sound)
+    (sym c.in_range.ensures ∙ c.if-not-in_range.false)
+    (c.new-query.result.counted ∙ ap trace_count asks)
+    c.if-query-eq0.false
+    (ap (λ q. fit_of (length (listed q)) list) (sym asks) ∙ sym c.look.ensures.fit ∙ c.in_ok-look.was {u = tt})
+    (subst (λ q. Passes q (constraints q.activities) none_yet list c.pass-tally.result c.pass-tally.new.list) asks
+    (rw c.look.ensures.list_unchanged at c.pass-tally.ensures))
