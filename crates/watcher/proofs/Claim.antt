@@ -7,7 +7,7 @@ use mathlib.Core.Bool.{true}
 use mathlib.Core.List.{List, [], ◌∷◌, ◌++◌, map}
 use lib.ListN.{length, drop, length-map}
 use lib.Seq.{drop_at}
-use Rattle.base.specs.Lists.{all}
+use Rattle.std.specs.List.{list_all}
 use Rattle.base.proofs.Bools.{and_left, and_right}
 use Rattle.base.specs.Checks.{Reply}
 use Rattle.base.proofs.Checks.{none_fail_reply, both_left}
@@ -23,11 +23,11 @@ use Rattle.watcher.proofs.Stepping.{step_made}
 
 -- ## What is told, and what lies past it
 
-pub tells_each : (n : ℕ) (trace : List ℕ) → all_below n trace ≡ true → (cs : List Constraint) (rest : List ℕ) → all (proper n) cs ≡ true
+pub tells_each : (n : ℕ) (trace : List ℕ) → all_below n trace ≡ true → (cs : List Constraint) (rest : List ℕ) → list_all (proper n) cs ≡ true
     → Tells n cs trace (map (λ c. outlook n c trace) cs ++ rest)
 tells_each n trace within [] rest h = tt
 tells_each n trace within (c ∷ cs) rest h =
-    let others = all (proper n) cs in
+    let others = list_all (proper n) cs in
     (right n c (proper_over n c (and_left (proper n c) others h)) trace within, tells_each n trace within cs rest (and_right (proper n c) others h))
 
 module _ (n : ℕ) (numbers : List ℕ) (before : Slots) (trace : List ℕ) where

@@ -1,4 +1,4 @@
--- What the two loops over the constraints come to: a new state for each, with what it tells, and then what was there.
+-- What the loop over the constraints comes to: a new state for each, with what it tells, and then what was there.
 -- Assumes nothing.
 use Prim.Native.Nat.{ℕ, zero, suc, ◌+◌, ◌*◌, ◌≤◌, ◌<◌}
 use native.Mathlib.Omega.{arith}

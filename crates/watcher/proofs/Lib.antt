@@ -1,5 +1,6 @@
 pub mod Outlooks
 pub mod Turning
+pub mod Chunks
 pub mod Filling
 pub mod Looking
 pub mod Making

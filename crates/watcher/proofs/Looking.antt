@@ -7,7 +7,8 @@ use mathlib.Core.Bool.{Bool, true, false}
 use borrow.Author.Tests.{eqb-true}
 use lib.Dec.{eqb}
 use lib.ListN.{get_or}
-use Rattle.base.specs.Lists.{all, range}
+use Rattle.std.specs.List.{list_all}
+use Rattle.base.specs.Lists.{range}
 use Rattle.base.proofs.Lists.{all_range}
 use Rattle.declare.specs.Automata.{next_of, letter}
 use Rattle.declare.proofs.Agreement.{letter_small}
@@ -17,7 +18,7 @@ use Rattle.watcher.specs.Table.{outlook_in, table, place}
 abbrev tells : Bool → ℕ → ℕ → Bool
 tells only t k = eqb (get_or (table only) (4 * (t + 32 * k) + 3) 0) (outlook_in only t k)
 
-all_tell : (only : Bool) → all (λ t. all (tells only t) (range 0 8)) (range 1 24) ≡ true
+all_tell : (only : Bool) → list_all (λ t. list_all (tells only t) (range 0 8)) (range 1 24) ≡ true
 unfolding table
 all_tell true = refl
 all_tell false = refl
@@ -25,7 +26,7 @@ all_tell false = refl
 abbrev leads : Bool → ℕ → ℕ → ℕ → Bool
 leads only t k l = eqb (get_or (table only) (4 * (t + 32 * k) + (2 - l)) 0) (t + 32 * next_of t k l)
 
-all_lead : (only : Bool) → all (λ t. all (λ k. all (leads only t k) (range 0 3)) (range 0 8)) (range 1 24) ≡ true
+all_lead : (only : Bool) → list_all (λ t. list_all (λ k. list_all (leads only t k) (range 0 3)) (range 0 8)) (range 1 24) ≡ true
 unfolding table
 all_lead true = refl
 all_lead false = refl
@@ -40,4 +41,4 @@ module _ (only : Bool) (template k : ℕ) (low : 1 ≤ template) (high : templat
   next_there a b activity =
       eqb-true _ _
       (all_range (leads only template k) 0 3 (letter a b activity)
-      (at_every_state (λ t k. all (leads only t k) (range 0 3)) (all_lead only) template k low high small) (omega arith) (letter_small a b activity))
+      (at_every_state (λ t k. list_all (leads only t k) (range 0 3)) (all_lead only) template k low high small) (omega arith) (letter_small a b activity))

@@ -1,6 +1,6 @@
 -- What start and step leave, by their loops, is `slots_after`.
 -- Assumes nothing.
-use Prim.Native.Nat.{ℕ, ◌+◌, ◌-◌, ◌*◌, ◌/◌, ◌%◌, ◌≤◌, ◌<◌}
+use Prim.Native.Nat.{ℕ, ◌+◌, ◌*◌, ◌/◌, ◌%◌, ◌≤◌, ◌<◌}
 use native.Mathlib.Omega.{arith}
 use mathlib.Core.Path.{◌≡◌, sym, ap, ap₂, ◌∙◌}
 use mathlib.Core.Bool.{true, ◌&&◌}
@@ -9,12 +9,13 @@ use borrow.Author.Tests.{eqb-true, ltb-true, ltb-false, not-false}
 use lib.Dec.{eqb, ltb}
 use lib.ListN.{length, get_or, drop, length-map, get_or-append}
 use lib.Seq.{drop_at}
-use Rattle.base.specs.Lists.{all, range}
+use Rattle.std.specs.List.{list_all}
+use Rattle.base.specs.Lists.{range}
 use Rattle.base.specs.Checks.{gives, reply}
 use Rattle.base.specs.Logic.{in_range}
 use Rattle.base.proofs.Bools.{and_left, and_right}
 use Rattle.base.proofs.Ranges.{range_facts}
-use Rattle.base.proofs.Lists.{map_map, all_range, same_on_range, range_at, range_length}
+use Rattle.base.proofs.Lists.{map_map, all_map, all_range, same_on_range, range_at, range_length}
 use Rattle.base.proofs.Checks.{NoneFail, none_fail}
 use Rattle.declare.specs.declared.constraints.Constraint.{Constraint}
 use Rattle.declare.specs.Constraints.{pairs, Over}
@@ -24,7 +25,6 @@ use Rattle.eventlog.specs.Store.{declarable}
 use Rattle.watcher.specs.Calls.{constraint_at, given, proper, all_whole, Slots, slots_after, start_checks}
 use Rattle.watcher.specs.Table.{table, place, state_number, state_after, outlook}
 use Rattle.watcher.specs.Loops.{each_of, put, first_turn, turn_by}
-use Rattle.watcher.proofs.Turning.{all_from, all_given}
 use Rattle.watcher.proofs.Filling.{filled}
 use Rattle.watcher.proofs.Looking.{outlook_there, next_there}
 
@@ -91,17 +91,17 @@ module _ (n : ℕ) (numbers : List ℕ) (started : reply (start_checks n numbers
 
   pub none_cut : 3 * (length numbers / 3) ≡ length numbers
   none_cut =
-      let no-rest = eqb-true (length numbers % 3) 0 (and_left (eqb (length numbers % 3) 0) (all (proper n) (given numbers)) well) in omega arith
+      let no-rest = eqb-true (length numbers % 3) 0 (and_left (eqb (length numbers % 3) 0) (list_all (proper n) (given numbers)) well) in omega arith
 
-  pub all_proper : all (proper n) (given numbers) ≡ true
-  all_proper = and_right (eqb (length numbers % 3) 0) (all (proper n) (given numbers)) well
+  pub all_proper : list_all (proper n) (given numbers) ≡ true
+  all_proper = and_right (eqb (length numbers % 3) 0) (list_all (proper n) (given numbers)) well
 
   pub each_over : (i : ℕ) → i < length numbers / 3 → Over n (constraint_at numbers i)
-  unfolding all_from
+  unfolding given
   each_over i h =
       proper_over n (constraint_at numbers i)
-      (all_range (λ i. proper n (constraint_at numbers i)) 0 (length numbers / 3 - 0) i
-      (sym (all_given n numbers) ∙ all_proper) (omega arith) (omega arith))
+      (all_range (λ i. proper n (constraint_at numbers i)) 0 (length numbers / 3) i
+      (sym (all_map (proper n) (constraint_at numbers) (range 0 (length numbers / 3))) ∙ all_proper) (omega arith) (omega arith))
 
   table_here : List ℕ
   table_here = table (eqb n 1)

@@ -10,7 +10,8 @@ use borrow.Author.Tests.{eqb-true, eqb-false, ltb-true, lt-ltb, not-true, eq-eqb
 use lib.Dec.{eqb, leb, ltb}
 use Rattle.std.specs.Prelude.{if◌then◌else◌}
 use Rattle.base.specs.Logic.{◌implies◌}
-use Rattle.base.specs.Lists.{all, range}
+use Rattle.std.specs.List.{list_all}
+use Rattle.base.specs.Lists.{range}
 use Rattle.base.proofs.Bools.{equal_same, and_left, and_right, and_both, implied, fails_too, either, at_both, clash, not_itself}
 use Rattle.base.proofs.Lists.{all_range, all_append}
 use Rattle.declare.specs.declared.constraints.Constraint.{Constraint}
@@ -79,7 +80,7 @@ stays only template k letter =
     comes only template letter implies (passed_on only template k next true && passed_on only template k next false)
 
 -- with others declared, and without (then there are templates 1 to 8 alone, but the test holds of all)
-all_stay : (only : Bool) → all (λ t. all (λ k. all (stays only t k) (range 0 3)) (range 0 8)) (range 1 24) ≡ true
+all_stay : (only : Bool) → list_all (λ t. list_all (λ k. list_all (stays only t k) (range 0 3)) (range 0 8)) (range 1 24) ≡ true
 unfolding next_of verdict_of
 all_stay true = refl
 all_stay false = refl
@@ -117,7 +118,7 @@ module _ (n : ℕ) (c : Constraint) (over : Over n c) where
   stays_at : (k letter : ℕ) → k < 8 → letter < 3 → stays (eqb n 1) c.template k letter ≡ true
   stays_at k letter small few =
       all_range (stays (eqb n 1) c.template k) 0 3 letter
-      (at_every_state (λ t k. all (stays (eqb n 1) t k) (range 0 3)) (all_stay (eqb n 1)) c.template k over.from_1 over.to_24 small) (omega arith) few
+      (at_every_state (λ t k. list_all (stays (eqb n 1) t k) (range 0 3)) (all_stay (eqb n 1)) c.template k over.from_1 over.to_24 small) (omega arith) few
 
   abbrev led_to : ℕ → List ℕ → ℕ
   led_to k more = follow c.template c.a c.b k more

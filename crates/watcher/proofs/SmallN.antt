@@ -6,8 +6,9 @@ use mathlib.Core.Path.{◌≡◌, refl, sym, ap, subst, ◌∙◌}
 use mathlib.Core.Bool.{Bool, true, false, ◌&&◌, ◌||◌}
 use mathlib.Core.List.{List, [], ◌∷◌}
 use borrow.Author.Tests.{eqb-true, eqb-false, ne_eqb, ltb-true, lt-ltb}
-use lib.Dec.{eqb}
-use Rattle.base.specs.Lists.{all, range}
+use lib.Dec.{eqb, ltb}
+use Rattle.std.specs.List.{list_all}
+use Rattle.base.specs.Lists.{range}
 use Rattle.base.proofs.Bools.{either}
 use Rattle.base.proofs.Lists.{all_weaker}
 use Rattle.declare.specs.declared.constraints.Constraint.{Constraint}
@@ -23,7 +24,7 @@ use Rattle.watcher.proofs.Outlooks.{exclude, right}
 abbrev same_anyway : ℕ → ℕ → Bool
 same_anyway t k = (eqb t 8 && eqb k 1) || eqb (outlook_in true t k) (outlook_in false t k)
 
-all_same_anyway : all (λ t. all (same_anyway t) (range 0 8)) (range 1 24) ≡ true
+all_same_anyway : list_all (λ t. list_all (same_anyway t) (range 0 8)) (range 1 24) ≡ true
 unfolding outlook_in
 all_same_anyway = refl
 
@@ -35,7 +36,7 @@ same_outlook template k low high small other =
 -- ## The law
 
 below_more : (n n' : ℕ) → n ≤ n' → (trace : List ℕ) → all_below n trace ≡ true → all_below n' trace ≡ true
-below_more n n' h = all_weaker _ _ (λ x small. lt-ltb x n' (omega (arith, ltb-true x n small)))
+below_more n n' h = all_weaker (λ x. ltb x n) (λ x. ltb x n') (λ x small. lt-ltb x n' (omega (arith, ltb-true x n small)))
 
 -- Declaring more activities changes no state, but for template 8 where there was one activity and a step was taken.
 pub more_declared : (n n' : ℕ) (c : Constraint) (trace : List ℕ) (s : ℕ) → n ≤ n' → Over n c → all_below n trace ≡ true

@@ -1,15 +1,16 @@
 -- Start and step: what each says and leaves. The contracts cite these.
 -- Assumes nothing.
-use Rattle.std.specs.Prelude.{ℕ, ◌+◌, ◌*◌, ◌/◌, ◌%◌, ◌≤◌, ◌≡◌, Bool, true, not, ◌&&◌, ◌||◌, List, [], ◌∷◌, ◌++◌, map, eqb, leb, ltb, length, get_or, drop}
-use Rattle.base.specs.Lists.{all, range}
+use Rattle.std.specs.Prelude.{ℕ, ◌+◌, ◌*◌, ◌/◌, ◌%◌, ◌≤◌, ◌≡◌, Bool, true, not, ◌&&◌, ◌||◌, List, [], ◌∷◌, ◌++◌, map, eqb, leb, ltb, length, get_or, drop, Result}
+use Rattle.std.specs.List.{list_all}
+use Rattle.base.specs.Lists.{range}
 use Rattle.base.specs.Checks.{Check, ◌refuses◌with◌, Reply, gives, refused, reply, when_passed, Outcome}
 use Rattle.base.specs.Logic.{in_range}
-use Rattle.answers.specs.Answers.{refusal_said}
+use Rattle.answers.specs.declared.Refusal.{Refusal}
+use Rattle.answers.specs.Answers.{said_by, record_after}
 use Rattle.declare.specs.declared.constraints.Constraint.{Constraint}
 use Rattle.declare.specs.Constraints.{constraint, pairs}
 use Rattle.eventlog.specs.Store.{longest_trace, declarable, all_below}
 use Rattle.watcher.specs.declared.Watcher.{Watcher}
-use Rattle.watcher.specs.declared.StartAnswer.{StartAnswer}
 use Rattle.watcher.specs.Table.{state_after, outlook}
 
 abbrev pub most_constraints : ℕ
@@ -31,7 +32,7 @@ proper n c = in_range 1 c.template 24 && ltb c.a n && ltb c.b n && pairs c.templ
 
 -- none is cut short, and each is proper
 abbrev pub all_whole : ℕ → List ℕ → Bool
-all_whole n numbers = eqb (length numbers % 3) 0 && all (proper n) (given numbers)
+all_whole n numbers = eqb (length numbers % 3) 0 && list_all (proper n) (given numbers)
 
 -- ## What is lent to write in: a byte a constraint for its automaton's state, and one for what is told of it
 
@@ -77,14 +78,12 @@ start_checks n numbers =
     (not (all_whole n numbers) refuses 13 with 0) ∷
     []
 
-abbrev pub start_said : StartAnswer → Reply
-start_said (StartAnswer.Started watcher) = gives (watcher.activities ∷ watcher.constraints ∷ watcher.taken ∷ [])
-start_said (StartAnswer.Refused refusal) = refusal_said refusal
+abbrev pub start_said : Result Watcher Refusal → Reply
+start_said = said_by (λ watcher. watcher.activities ∷ watcher.constraints ∷ watcher.taken ∷ [])
 
 -- the record after a start: a refused one leaves the record there was
-abbrev pub started : Watcher → StartAnswer → Watcher
-started there (StartAnswer.Started watcher) = watcher
-started there (StartAnswer.Refused refusal) = there
+abbrev pub started : Watcher → Result Watcher Refusal → Watcher
+started = record_after
 
 -- `start`, whatever record there was beside what is lent; it tells of each constraint its state before the first step
 abbrev pub Starts : ℕ → List ℕ → Watched → Reply → Watched → Type 0

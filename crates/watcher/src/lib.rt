@@ -4,36 +4,26 @@
 
 mod table;
 
-ghost use Rattle.std.specs.Prelude.{◌≡◌, [], ◌∷◌, ◌+◌, ◌-◌, ◌*◌, ◌/◌, ◌<◌, eqb, length, get_or};
-ghost use Rattle.base.specs.Lists.{all};
+ghost use Rattle.std.specs.Prelude.{◌≡◌, ℕ, [], ◌∷◌, ◌+◌, ◌-◌, ◌*◌, ◌/◌, ◌<◌, ◌≤◌, eqb, length, get_or};
+ghost use Rattle.std.specs.List.{list_all};
 ghost use Rattle.base.specs.Checks.{reply};
 ghost use Rattle.declare.specs.Automata.{letter};
 ghost use Rattle.declare.specs.Constraints.{constraint, pairs};
 ghost use Rattle.answers.specs.Answers.{done_said};
 ghost use Rattle.watcher.specs.Calls.{lent_slots, watched, given, proper, all_whole, start_checks, start_said, started, Starts, Steps};
 ghost use Rattle.watcher.specs.Table.{table as table_of, place};
-ghost use Rattle.watcher.specs.Loops.{each_of, HasPlace, first_turn as turned_first, turn_by, usable, checks_of_step};
+ghost use Rattle.watcher.specs.Loops.{each_of, HasPlace, turn_to, Computes, first_turn, turn_by, usable, checks_of_step};
 
-use answers::{DoneAnswer, Refusal};
+use answers::{Reason, Refusal};
 
-// The record: how many activities are declared, constraints watched, and activities taken so far.
-#[derive(Clone, Copy)]
+// The record: how many activities are declared, constraints watched, and activities taken so far. C passes it as it is.
+// The constraints are counted here beside their numbers, since a step that is lent others is to answer 1.
+#[derive(Clone, Copy, Debug, PartialEq, Eq)]
+#[repr(C)]
 pub struct Watcher {
     pub activities: u32,
     pub constraints: u32,
     pub taken: u32,
-}
-
-#[derive(Clone, Copy)]
-pub enum StartAnswer {
-    Started(Watcher),
-    Refused(Refusal),
-}
-
-#[derive(Clone, Copy)]
-pub struct StepResult {
-    pub watcher: Watcher,
-    pub answer: DoneAnswer,
 }
 
 pub const MOST_CONSTRAINTS: usize = 256;
@@ -42,23 +32,6 @@ pub const MOST_CONSTRAINTS: usize = 256;
 pub const NUMBERS: usize = 3;
 
 pub const MOST_NUMBERS: usize = NUMBERS * MOST_CONSTRAINTS;
-
-// Document 02's numbers of the refusals that come from here.
-pub const NO_CONSTRAINT: u8 = 13;
-
-pub const TOO_MANY: u8 = 14;
-
-// The table, with so many declared activities. Where there is one alone, every event is that one, so that template 8 (End), once it holds,
-// holds with every continuation: 163 is where its state 1 tells, 4 * (8 + 32) + 3.
-fn table_for(activities: u32) -> [u8; 1024]
-    ensures { result ≡ table_of (eqb activities 1) }
-{
-    let mut table = table::TABLE;
-    if activities == 1 {
-        table[163] = 0;
-    }
-    table
-}
 
 // Which of a state's four numbers an event's letter takes. The test for b stands first: then both are made without a jump.
 fn column_of(a: u16, b: u16, activity: u16) -> usize
@@ -69,78 +42,40 @@ fn column_of(a: u16, b: u16, activity: u16) -> usize
 }
 
 // Where the table has the next state. Any numbers may come in.
+#[tactic(auto, unfolding(crate::specs::Table::place))]
 fn place_of(a: u16, b: u16, state: u8, activity: u16) -> usize
     ensures { (result ≡ place a b state activity) × (result < 1024) }
 {
-    4 * state as usize + column_of(a, b, activity)
+    4 * usize::from(state) + column_of(a, b, activity)
 }
 
-// What a state tells.
+// What a state tells: a byte and no enum, since C reads it in the array that it lends.
 fn outlook_of(table: &[u8; 1024], state: u8) -> u8
     ensures { result ≡ get_or table.now (4 * state + 3) 0 }
 {
-    table[4 * state as usize + 3]
+    table[4 * usize::from(state) + 3]
 }
 
-// One constraint, one event on.
-fn turn(
+// Gives each of so many constraints the state that the closure makes of its place and its state, and tells of it what is then open.
+// States and told travel as two slices, since C lends them apart.
+fn turn_each<F: Fn(usize, u8) -> u8>(
     table: &[u8; 1024],
-    numbers: &[u16],
-    at: usize,
+    count: usize,
     states: &mut [u8],
     told: &mut [u8],
-    activity: u16,
+    next_state: F,
 )
-    requires { (3 * at + 2 < length numbers.now) × (at < length states.old) × (at < length told.old) }
-    ensures { lent_slots states.new told.new
-        ≡ turn_by table.now numbers.now activity at (lent_slots states.old told.old) }
+    requires fits { (count ≤ length states.old) × (count ≤ length told.old) }
+    requires callable { (at : ℕ) (state : ℕ) → at < count → state < 256 → F.pre next_state at state }
+    ensures { (next : ℕ → ℕ → ℕ)
+        → Computes (F.post next_state) count next
+        → lent_slots states.new told.new ≡ each_of (turn_to table.now next) count 0 (lent_slots states.old told.old) }
 {
-    let from = NUMBERS * at;
-    let state = table[place_of(numbers[from + 1], numbers[from + 2], states[at], activity)];
-    states[at] = state;
-    told[at] = outlook_of(table, state);
-}
-
-// Every constraint, one event on.
-fn turns(watcher: Watcher, numbers: &[u16], states: &mut [u8], told: &mut [u8], activity: u16)
-    requires { HasPlace watcher numbers.now (lent_slots states.old told.old) }
-    ensures { lent_slots states.new told.new
-        ≡ each_of (turn_by (table_of (eqb watcher.activities 1)) numbers.now activity) watcher.constraints 0
-        (lent_slots states.old told.old) }
-{
-    let table = table_for(watcher.activities);
-    let count = watcher.constraints as usize;
-    let mut at = 0;
-    while at < count {
-        turn(&table, numbers, at, states, told, activity);
-        at += 1;
-    }
-}
-
-// One constraint, before the first event.
-fn first_turn(table: &[u8; 1024], numbers: &[u16], at: usize, states: &mut [u8], told: &mut [u8])
-    requires { (3 * at < length numbers.now) × (at < length states.old) × (at < length told.old) }
-    ensures { lent_slots states.new told.new
-        ≡ turned_first table.now numbers.now at (lent_slots states.old told.old) }
-{
-    let state = (numbers[NUMBERS * at] % 32) as u8;
-    states[at] = state;
-    told[at] = outlook_of(table, state);
-}
-
-// Every constraint, before the first event.
-fn first_turns(watcher: Watcher, numbers: &[u16], states: &mut [u8], told: &mut [u8])
-    requires { HasPlace watcher numbers.now (lent_slots states.old told.old) }
-    ensures { lent_slots states.new told.new
-        ≡ each_of (turned_first (table_of (eqb watcher.activities 1)) numbers.now) watcher.constraints 0
-        (lent_slots states.old told.old) }
-{
-    let table = table_for(watcher.activities);
-    let constraints = watcher.constraints as usize;
-    let mut at = 0;
-    while at < constraints {
-        first_turn(&table, numbers, at, states, told);
-        at += 1;
+    // By index: of elements that are written through an iterator a proof knows nothing afterwards.
+    for at in 0..count {
+        let state = next_state(at, states[at]);
+        states[at] = state;
+        told[at] = outlook_of(table, state);
     }
 }
 
@@ -148,74 +83,52 @@ fn first_turns(watcher: Watcher, numbers: &[u16], states: &mut [u8], told: &mut 
 fn is_pair(template: u16, a: u16, b: u16) -> bool
     ensures { result ≡ pairs template a b }
 {
-    if template <= 8 {
-        return a == b;
+    match template {
+        0..=8 => a == b,
+        9..=12 => a < b,
+        _ => a != b,
     }
-    if template <= 12 { a < b } else { a != b }
 }
 
 fn is_proper(activities: u32, template: u16, a: u16, b: u16) -> bool
     ensures { result ≡ proper activities (constraint template a b) }
 {
-    if template < 1 || 24 < template {
-        return false;
-    }
-    if activities <= a as u32 || activities <= b as u32 {
-        return false;
-    }
-    is_pair(template, a, b)
+    1 <= template
+        && template <= 24
+        && u32::from(a) < activities
+        && u32::from(b) < activities
+        && is_pair(template, a, b)
 }
 
 // Whether each of the constraints is proper. Numbers behind the last whole one are not looked at.
 fn all_proper(activities: u32, numbers: &[u16]) -> bool
-    ensures { result ≡ all (proper activities) (given numbers.now) }
+    ensures { result ≡ list_all (proper activities) (given numbers.now) }
 {
-    let count = numbers.len() / NUMBERS;
-    let mut at = 0;
-    while at < count {
-        let from = NUMBERS * at;
-        if !is_proper(
-            activities,
-            numbers[from],
-            numbers[from + 1],
-            numbers[from + 2],
-        ) {
-            return false;
-        }
-        at += 1;
-    }
-    true
+    numbers
+        .chunks_exact(NUMBERS)
+        .all(|c| is_proper(activities, c[0], c[1], c[2]))
 }
 
 fn is_well_formed(activities: u32, numbers: &[u16]) -> bool
     ensures { result ≡ all_whole activities numbers.now }
 {
-    if numbers.len() % NUMBERS != 0 {
-        return false;
-    }
-    all_proper(activities, numbers)
-}
-
-fn refused(number: u8) -> StartAnswer
-    ensures { result ≡ StartAnswer.Refused (record { number = number; detail = 0 }) }
-{
-    StartAnswer::Refused(Refusal { number, detail: 0 })
+    numbers.len() % NUMBERS == 0 && all_proper(activities, numbers)
 }
 
 // What start answers. Nothing is written before this is known.
-fn start_answer(activities: u32, numbers: &[u16]) -> StartAnswer
+fn start_answer(activities: u32, numbers: &[u16]) -> Result<Watcher, Refusal>
     ensures { start_said result ≡ reply (start_checks activities numbers.now) (activities ∷ length numbers.now / 3 ∷ 0 ∷ []) }
 {
     if !eventlog::declarable(activities) {
-        return refused(eventlog::ACTIVITIES_OUT_OF_RANGE);
+        return Err(Reason::ActivitiesOutOfRange.into());
     }
     if MOST_NUMBERS < numbers.len() {
-        return refused(TOO_MANY);
+        return Err(Reason::TooMany.into());
     }
     if !is_well_formed(activities, numbers) {
-        return refused(NO_CONSTRAINT);
+        return Err(Reason::NoConstraint.into());
     }
-    StartAnswer::Started(Watcher {
+    Ok(Watcher {
         activities,
         constraints: (numbers.len() / NUMBERS) as u32,
         taken: 0,
@@ -229,72 +142,99 @@ pub fn start(
     numbers: &[u16],
     states: &mut [u8; MOST_CONSTRAINTS],
     told: &mut [u8; MOST_CONSTRAINTS],
-) -> StartAnswer
+) -> Result<Watcher, Refusal>
     ensures { (there : Watcher) → Starts activities numbers.now (watched there states.old told.old)
         (start_said result) (watched (started there result) states.new told.new) }
 {
-    let answer = start_answer(activities, numbers);
-    match answer {
-        StartAnswer::Refused(_) => answer,
-        StartAnswer::Started(watcher) => {
-            first_turns(watcher, numbers, states, told);
-            answer
-        }
-    }
-}
-
-// Whether a record has the sizes that a start leaves, beside so many numbers.
-fn is_usable(watcher: Watcher, numbers: usize) -> bool
-    ensures { result ≡ usable watcher numbers }
-{
-    let constraints = watcher.constraints as usize;
-    if eventlog::MOST_ACTIVITIES < watcher.activities || MOST_CONSTRAINTS < constraints {
-        return false;
-    }
-    NUMBERS * constraints == numbers && watcher.taken <= eventlog::LONGEST_TRACE
-}
-
-// What step answers. Nothing is written before this is known.
-fn step_answer(watcher: Watcher, numbers: usize, activity: u32) -> DoneAnswer
-    ensures { done_said result ≡ reply (checks_of_step watcher numbers activity) [] }
-{
-    if !is_usable(watcher, numbers) {
-        return answers::not_done(eventlog::NOT_SOUND, 0);
-    }
-    if watcher.activities <= activity {
-        return answers::not_done(eventlog::UNDECLARED, 0);
-    }
-    if eventlog::LONGEST_TRACE <= watcher.taken {
-        return answers::not_done(eventlog::TOO_LONG, 0);
-    }
-    DoneAnswer::Done
+    let watcher = start_answer(activities, numbers)?;
+    watcher.first_turns(numbers, states, told);
+    Ok(watcher)
 }
 
 // One activity more, and what is then told of each constraint. The numbers are those of the start. A refused step changes nothing.
 pub fn step(
-    watcher: Watcher,
+    watcher: &mut Watcher,
     numbers: &[u16],
     states: &mut [u8; MOST_CONSTRAINTS],
     told: &mut [u8; MOST_CONSTRAINTS],
     activity: u32,
-) -> StepResult
-    ensures { Steps numbers.now (watched watcher states.old told.old) activity
-        (done_said result.answer) (watched result.watcher states.new told.new) }
+) -> Result<(), Refusal>
+    ensures { Steps numbers.now (watched watcher.old states.old told.old) activity
+        (done_said result) (watched watcher.new states.new told.new) }
 {
-    let answer = step_answer(watcher, numbers.len(), activity);
-    match answer {
-        DoneAnswer::Refused(_) => StepResult { watcher, answer },
-        DoneAnswer::Done => {
-            turns(watcher, numbers, states, told, activity as u16);
-            let after = Watcher {
-                activities: watcher.activities,
-                constraints: watcher.constraints,
-                taken: watcher.taken + 1,
-            };
-            StepResult {
-                watcher: after,
-                answer,
-            }
+    watcher.step_answer(numbers.len(), activity)?;
+    watcher.turns(numbers, states, told, activity as u16);
+    watcher.taken += 1;
+    Ok(())
+}
+
+impl Watcher {
+    // The table. Where one activity alone is declared, every event is that one, so that template 8 (End), once it holds, holds with every
+    // continuation: 163 is where its state 1 tells, 4 * (8 + 32) + 3.
+    fn table(self) -> [u8; 1024]
+        ensures { result ≡ table_of (eqb self.activities 1) }
+    {
+        let mut table = table::TABLE;
+        if self.activities == 1 {
+            table[163] = 0;
         }
+        table
+    }
+
+    // Every constraint, before the first event.
+    fn first_turns(self, numbers: &[u16], states: &mut [u8], told: &mut [u8])
+        requires { HasPlace self numbers.now (lent_slots states.old told.old) }
+        ensures { lent_slots states.new told.new
+            ≡ each_of (first_turn (table_of (eqb self.activities 1)) numbers.now) self.constraints 0 (lent_slots states.old told.old) }
+    {
+        turn_each(
+            &self.table(),
+            self.constraints as usize,
+            states,
+            told,
+            |at, _| (numbers[NUMBERS * at] % 32) as u8,
+        );
+    }
+
+    // Every constraint, one event on.
+    fn turns(self, numbers: &[u16], states: &mut [u8], told: &mut [u8], activity: u16)
+        requires { HasPlace self numbers.now (lent_slots states.old told.old) }
+        ensures { lent_slots states.new told.new
+            ≡ each_of (turn_by (table_of (eqb self.activities 1)) numbers.now activity) self.constraints 0
+            (lent_slots states.old told.old) }
+    {
+        let table = self.table();
+        let count = self.constraints as usize;
+        turn_each(&table, count, states, told, |at, state| {
+            let from = NUMBERS * at;
+            table[place_of(numbers[from + 1], numbers[from + 2], state, activity)]
+        });
+    }
+
+    // Whether the record has the sizes that a start leaves, beside so many numbers.
+    fn is_usable(self, numbers: usize) -> bool
+        ensures { result ≡ usable self numbers }
+    {
+        let constraints = self.constraints as usize;
+        self.activities <= eventlog::MOST_ACTIVITIES
+            && constraints <= MOST_CONSTRAINTS
+            && NUMBERS * constraints == numbers
+            && self.taken <= eventlog::LONGEST_TRACE
+    }
+
+    // What step answers. Nothing is written before this is known.
+    fn step_answer(self, numbers: usize, activity: u32) -> Result<(), Refusal>
+        ensures { done_said result ≡ reply (checks_of_step self numbers activity) [] }
+    {
+        if !self.is_usable(numbers) {
+            return Err(Reason::NotSound.into());
+        }
+        if self.activities <= activity {
+            return Err(Reason::Undeclared.into());
+        }
+        if eventlog::LONGEST_TRACE <= self.taken {
+            return Err(Reason::TooLong.into());
+        }
+        Ok(())
     }
 }
