@@ -5,7 +5,8 @@ use mathlib.Core.Path.{◌≡◌, refl, sym, ap, ap₂, subst, transport, ◌∙
 use mathlib.Core.List.{List, [], ◌∷◌, ◌++◌}
 use lib.ListN.{length, take, get_elem?}
 use lib.Dec.{eqb}
-use Rattle.base.specs.Lists.{non_empty, filter, count, equal_lists}
+use Rattle.std.specs.List.{filter}
+use Rattle.base.specs.Lists.{non_empty, count, equal_lists}
 use Rattle.base.specs.Checks.{gives}
 use Rattle.eventlog.specs.declared.Space.{Space}
 use Rattle.eventlog.specs.Store.{Memory, space}

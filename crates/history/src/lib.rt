@@ -1,5 +1,5 @@
-// The four calls, handed on as they are. Each promises `Called`, a step of a history, so that what is proved of histories is about this
-// code.
+// The four calls, handed on as they are, the record and its buffers lent apart as C lends them. Each promises `Called`, a step of a
+// history, so that what is proved of histories is about this code.
 #![tactic(auto)]
 
 ghost use Rattle.answers.specs.Answers.{done_said, count_said};
@@ -9,26 +9,36 @@ ghost use Rattle.discovery.specs.Calls.{find_said};
 ghost use Rattle.history.specs.Ledger.{only, open_for, add as add_of, read as read_of, find as find_of};
 ghost use Rattle.history.specs.Histories.{Called};
 
-use columns::ReadResult;
-use discovery::{FindAnswer, Settings};
-use eventlog::{AddResult, OpenAnswer, Store};
+use answers::Refusal;
+use discovery::{Found, Settings};
+use eventlog::Store;
 
-pub fn open(n: u32) -> OpenAnswer
+pub fn open(n: u32) -> Result<Store, Refusal>
     ensures { (m : Memory) → Called m (open_for n) (only (open_said result)) (with_store (opened m.store result) m) }
 {
     eventlog::open(n)
 }
 
-pub fn add(store: Store, events: &mut [u8], ends: &mut [u32], trace: &[u8]) -> AddResult
-    ensures { Called (lent store events.old ends.old) (add_of trace.now) (only (done_said result.answer))
-        (lent result.store events.new ends.new) }
+pub fn add(
+    store: &mut Store,
+    events: &mut [u8],
+    ends: &mut [u32],
+    trace: &[u8],
+) -> Result<(), Refusal>
+    ensures { Called (lent store.old events.old ends.old) (add_of trace.now) (only (done_said result))
+        (lent store.new events.new ends.new) }
 {
     eventlog::add(store, events, ends, trace)
 }
 
-pub fn read(store: Store, events: &mut [u8], ends: &mut [u32], log: &[u8]) -> ReadResult
-    ensures { Called (lent store events.old ends.old) (read_of log.now) (only (count_said result.answer))
-        (lent result.store events.new ends.new) }
+pub fn read(
+    store: &mut Store,
+    events: &mut [u8],
+    ends: &mut [u32],
+    log: &[u8],
+) -> Result<usize, Refusal>
+    ensures { Called (lent store.old events.old ends.old) (read_of log.now) (only (count_said result))
+        (lent store.new events.new ends.new) }
 {
     columns::read(store, events, ends, log)
 }
@@ -39,7 +49,7 @@ pub fn find(
     ends: &[u32],
     settings: Settings,
     list: &mut [u16],
-) -> FindAnswer
+) -> Result<Found, Refusal>
     ensures { Called (lent store events.now ends.now) (find_of settings list.old)
         (record { said = find_said result; list = list.new }) (lent store events.now ends.now) }
 {
