@@ -10,6 +10,7 @@ use std::io::{Input, Print, Read};
 fn read_full<R: Read>(reader: &mut R, buffer: &mut [u8]) -> io::Result<usize>
     ensures { IfOk result (λ n. n ≤ length buffer.new) }
 {
+    // No library method fills a lent buffer up to the input's end and says how far: read_exact fails there, read_to_end needs a heap.
     let mut done = 0;
     while done < buffer.len() {
         let n = reader.read(&mut buffer[done..])?;

@@ -6,19 +6,20 @@ use mathlib.Core.Bool.{true, false}
 use mathlib.Core.List.{List, [], ◌∷◌, ◌++◌}
 use borrow.Author.Tests.{not-false, lt-ltb, le-ltb}
 use lib.ListN.{length}
+use Rattle.std.specs.Prelude.{Result, Err, None}
 use Rattle.base.specs.Checks.{Check, gives, refused}
 use Rattle.base.proofs.Checks.{refused_same, decision, decision_append}
 use Rattle.base.proofs.Outcomes.{accepted_passes, accepted_leaves}
 use Rattle.eventlog.specs.declared.Store.{Store}
+use Rattle.answers.specs.declared.Reason.{Reason}
 use Rattle.answers.specs.declared.Refusal.{Refusal}
-use Rattle.answers.specs.Answers.{refusal_said}
+use Rattle.answers.specs.Answers.{reason_number, refusal_said}
 use Rattle.eventlog.specs.Store.{declarable}
 use Rattle.eventlog.specs.Calls.{open_checks, Opens}
 use Rattle.columns.specs.Log.{log_checks}
-use Rattle.discovery.specs.declared.FindAnswer.{FindAnswer}
+use Rattle.discovery.specs.declared.Found.{Found}
 use Rattle.discovery.specs.declared.Settings.{Settings}
 use Rattle.discovery.specs.Calls.{threshold_in_range, settings_checks}
-use Rattle.report.specs.declared.SettingsLine.{SettingsLine}
 use Rattle.report.specs.Report.{most_input, settings_set, log_of, room_lent, checks_to_read, Arrays}
 use Rattle.report.specs.Stages.{settings_of, Decides, Decided}
 use Rattle.report.proofs.Setting.{LaidOut, malformed_by}
@@ -39,7 +40,7 @@ open_accepted {n = n} o =
     }
 
 check_passes :
-    {c : Check} {checks : List Check} {n : ℕ} {settings : Settings} {log : List ℕ} {arrays : Arrays} {answer : FindAnswer} {arrays' : Arrays} →
+    {c : Check} {checks : List Check} {n : ℕ} {settings : Settings} {log : List ℕ} {arrays : Arrays} {answer : Result Found Refusal} {arrays' : Arrays} →
     c.fails ≡ false → Decides checks n settings log arrays answer arrays' → Decides (c ∷ checks) n settings log arrays answer arrays'
 check_passes passes d =
     record {
@@ -50,32 +51,32 @@ check_passes passes d =
     }
 
 module _ (input : List ℕ) (arrays : Arrays) where
-  pub too_long : most_input < length input → Decided input arrays (FindAnswer.Refused (record { number = 12; detail = 0 })) arrays
+  pub too_long : most_input < length input → Decided input arrays (Err (record { reason = Reason.TooMuchInput; detail = 0 })) arrays
   unfolding checks_to_read
   too_long long = refusal_decides (rw (lt-ltb _ _ long))
 
   module _ (fits : length input ≤ most_input) where
-    pub malformed : settings_of input ≡ SettingsLine.Malformed → Decided input arrays (FindAnswer.Refused (record { number = 4; detail = 0 })) arrays
+    pub malformed : settings_of input ≡ None → Decided input arrays (Err (record { reason = Reason.Malformed; detail = 0 })) arrays
     unfolding checks_to_read
     malformed e = refusal_decides (rw (le-ltb _ _ fits, malformed_by input e))
 
     module _ (n : ℕ) (settings : Settings) (l : LaidOut input n settings) where
-      pub undeclarable : (refusal : Refusal) {there : Store} → Opens n there (refusal_said refusal) there → Decided input arrays (FindAnswer.Refused refusal) arrays
+      pub undeclarable : (refusal : Refusal) {there : Store} → Opens n there (refusal_said refusal) there → Decided input arrays (Err refusal) arrays
       unfolding checks_to_read
       undeclarable refusal o =
           let more = settings_checks (settings_set input) ++ log_checks (room_lent n) (log_of input) in
-          let refuses : decision (open_checks n) ≡ refused refusal.number refusal.detail = refused_same (open_checks n) _ [] _ _ (sym o.says) in
+          let refuses : decision (open_checks n) ≡ refused (reason_number refusal.reason) refusal.detail = refused_same (open_checks n) _ [] _ _ (sym o.says) in
           refusal_decides (rw (le-ltb _ _ fits, l.laid_out, ← l.activities) (decision_append (open_checks n) more ∙ rw refuses))
 
       module _ (declared : declarable n ≡ true) where
-        pub out_of_range : threshold_in_range settings ≡ false → Decided input arrays (FindAnswer.Refused (record { number = 3; detail = 0 })) arrays
+        pub out_of_range : threshold_in_range settings ≡ false → Decided input arrays (Err (record { reason = Reason.ThresholdOutOfRange; detail = 0 })) arrays
         unfolding checks_to_read
         out_of_range h =
             refusal_decides (rw (le-ltb _ _ fits, l.laid_out, ← l.activities, ← l.settings_are, declared, h))
 
         -- the four pass, and the answer is that to the log
         pub goes_on :
-            (log : List ℕ) {answer : FindAnswer} {arrays' : Arrays} → threshold_in_range settings ≡ true → log ≡ log_of input →
+            (log : List ℕ) {answer : Result Found Refusal} {arrays' : Arrays} → threshold_in_range settings ≡ true → log ≡ log_of input →
             Decides (log_checks (room_lent n) log) n settings log arrays answer arrays' → Decided input arrays answer arrays'
         unfolding checks_to_read
         goes_on log h e d =

@@ -7,6 +7,7 @@ use mathlib.Core.Bool.{true}
 use mathlib.Core.List.{List, [], ◌∷◌}
 use lib.ListN.{length, length-replicate}
 use lib.Seq.{length-sets}
+use Rattle.std.specs.Prelude.{Result, Ok, Err}
 use Rattle.base.specs.Lists.{non_empty}
 use Rattle.base.proofs.Lists.{filter_all}
 use Rattle.base.specs.Checks.{Check, Reply, gives, reply, when_passed, Outcome}
@@ -21,7 +22,7 @@ use Rattle.columns.specs.Log.{log_checks, spelled}
 use Rattle.eventlog.specs.Calls.{with_traces}
 use Rattle.columns.specs.Calls.{Reads}
 use Rattle.columns.proofs.Laws.{grown_read, spelled_non_empty}
-use Rattle.discovery.specs.declared.FindAnswer.{FindAnswer}
+use Rattle.discovery.specs.declared.Found.{Found}
 use Rattle.discovery.specs.declared.Settings.{Settings}
 use Rattle.discovery.specs.Question.{Question, asked, listed, numbers, layout}
 use Rattle.discovery.specs.Calls.{find_checks, find_values, with_list, find_said, Finds}
@@ -41,7 +42,7 @@ length_lent = length-replicate {A = ℕ} (numbers * lent_constraints) 0
 -- what the checks up to the find refuse is the answer
 pub refusal_decides :
     {checks : List Check} {n : ℕ} {settings : Settings} {log : List ℕ} {arrays : Arrays} {refusal : Refusal} →
-    decision checks ≡ refusal_said refusal → Decides checks n settings log arrays (FindAnswer.Refused refusal) arrays
+    decision checks ≡ refusal_said refusal → Decides checks n settings log arrays (Err refusal) arrays
 refusal_decides {checks} {n} {settings} {log} {refusal = refusal} e =
     let q = log_question n settings log in
     let all : decision (then_find checks q) ≡ refusal_said refusal = decision_append checks (find_checks q lent_list) ∙ rw e in
@@ -59,15 +60,15 @@ asked_of_all n settings log = filter_all non_empty (spelled log) (spelled_non_em
 -- ## The find, after checks that pass
 
 found_fits :
-    (m : Memory) (settings : Settings) (list : List ℕ) (answer : FindAnswer) (list' : List ℕ) → Finds m settings list (find_said answer) list' →
+    (m : Memory) (settings : Settings) (list : List ℕ) (answer : Result Found Refusal) (list' : List ℕ) → Finds m settings list (find_said answer) list' →
     numbers * number_listed answer ≤ length list'
-found_fits m settings list (FindAnswer.Listed found) list' f =
+found_fits m settings list (Ok found) list' f =
     let q = asked m settings in
     let given = accepted_gives f refl in
     let needed : found.constraints ≡ length (listed q) = cc in
     rw (accepted_leaves f refl, length-sets list 0 (layout q (listed q)))
     (omega (arith, needed, (find_passed q list (accepted_passes f refl).1).fits))
-found_fits m settings list (FindAnswer.Refused refusal) list' f = omega arith
+found_fits m settings list (Err refusal) list' f = omega arith
 
 -- a memory that the question is asked of
 pub record Filled (q : Question) (m : Memory) : Type 0 where
@@ -132,7 +133,7 @@ module _ (n : ℕ) (settings : Settings) (log : List ℕ) (declared : declarable
   module _ (after : Memory) where
     -- an accepted read, and the find after it
     pub added_decides :
-        (added : ℕ) (answer : FindAnswer) (list' : List ℕ) → length arrays.list ≡ numbers * lent_constraints →
+        (added : ℕ) (answer : Result Found Refusal) (list' : List ℕ) → length arrays.list ≡ numbers * lent_constraints →
         Reads fresh log (gives (added ∷ [])) after → Finds after settings arrays.list (find_said answer) list' →
         Decides checks n settings log arrays answer (record { events = after.events; ends = after.ends; list = list' })
     added_decides added answer list' room reads finds =
@@ -149,7 +150,7 @@ module _ (n : ℕ) (settings : Settings) (log : List ℕ) (declared : declarable
     -- a refused read
     pub not_added_decides :
         (refusal : Refusal) → Reads fresh log (refusal_said refusal) after →
-        Decides checks n settings log arrays (FindAnswer.Refused refusal) (record { events = after.events; ends = after.ends; list = arrays.list })
+        Decides checks n settings log arrays (Err refusal) (record { events = after.events; ends = after.ends; list = arrays.list })
     not_added_decides refusal reads =
         let o = read_outcome reads in
         rw (refused_keeps o refl) (refusal_decides (refused_same checks (length (spelled log) ∷ []) [] _ _ (sym o.says)))

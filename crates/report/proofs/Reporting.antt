@@ -7,12 +7,14 @@ use mathlib.Core.Path.{◌≡◌, refl, sym, ap, ◌∙◌}
 use mathlib.Core.List.{List, [], ◌∷◌, ◌++◌}
 use lib.ListN.{length, drop, length-append}
 use lib.Seq.{sets, sets-eq, length-sets}
+use Rattle.std.specs.Prelude.{Result, Ok, Err}
 use Rattle.base.specs.Lists.{flat_map}
 use Rattle.base.specs.Checks.{Check, reply}
 use Rattle.base.proofs.Checks.{none_fail_reply, refused_same}
 use Rattle.base.proofs.Outcomes.{accepted_passes, accepted_gives, accepted_leaves}
 use Rattle.declare.specs.declared.constraints.Constraint.{Constraint}
-use Rattle.discovery.specs.declared.FindAnswer.{FindAnswer}
+use Rattle.answers.specs.declared.Refusal.{Refusal}
+use Rattle.discovery.specs.declared.Found.{Found}
 use Rattle.discovery.specs.declared.Settings.{Settings}
 use Rattle.discovery.specs.Question.{Question, trace_count, fulfilments, listed, replayed, numbers, layout}
 use Rattle.discovery.specs.Calls.{find_values, with_list}
@@ -48,9 +50,9 @@ module _ (checks : List Check) (n : ℕ) (settings : Settings) (log : List ℕ) 
   abbrev text : List ℕ
   text = printed (reply (then_find checks q) []) (found_text q)
 
-  answer_printed : (answer : FindAnswer) → Decides checks n settings log arrays answer arrays' → answer_text answer arrays'.list ≡ text
+  answer_printed : (answer : Result Found Refusal) → Decides checks n settings log arrays answer arrays' → answer_text answer arrays'.list ≡ text
   unfolding found_text
-  answer_printed (FindAnswer.Listed found) d =
+  answer_printed (Ok found) d =
       let o = d.finds in
       let given = accepted_gives o refl in
       let needed : found.constraints ≡ length (listed q) = cc in
@@ -60,13 +62,13 @@ module _ (checks : List Check) (n : ℕ) (settings : Settings) (log : List ℕ) 
       let passed = none_fail_reply (then_find checks q) [] (accepted_passes o refl) in
       let same : length arrays'.list ≡ length arrays.list = rw (written, length-sets arrays.list 0 (layout q (listed q))) in
       rw (passed, written, needed, replays, traces, lines_listed q (listed q) arrays.list (omega arith))
-  answer_printed (FindAnswer.Refused refusal) d = rw (refused_same (then_find checks q) (find_values q) [] _ _ (sym d.finds.says))
+  answer_printed (Err refusal) d = rw (refused_same (then_find checks q) (find_values q) [] _ _ (sym d.finds.says))
 
 -- ## The report
 
 -- the answer to the input, and then its text
 pub printed_reports :
-    {input : List ℕ} {arrays arrays' : Arrays} {answer : FindAnswer} {out : List ℕ} {written : ℕ} {out' : List ℕ} →
+    {input : List ℕ} {arrays arrays' : Arrays} {answer : Result Found Refusal} {out : List ℕ} {written : ℕ} {out' : List ℕ} →
     Decided input arrays answer arrays' →
     Puts out 0 (length (answer_text answer arrays'.list)) (answer_text answer arrays'.list) written out' →
     Reports input arrays out written arrays' out'

@@ -3,7 +3,8 @@
 use Rattle.std.specs.Prelude.{ℕ, zero, suc, ◌+◌, ◌*◌, ◌≤◌, ◌≡◌, List, [], ◌++◌, length, get_or, drop}
 use Rattle.std.proofs.lemmas.List.Edits.{sets}
 use Rattle.discovery.specs.Question.{numbers}
-use Rattle.report.specs.declared.Counted.{Counted}
+use Rattle.report.specs.declared.text.Counted.{Counted}
+use Rattle.report.specs.declared.text.Text.{Text}
 use Rattle.report.specs.Print.{constraint_line}
 
 -- `text`, of this size, is put at a place of `out`, and the place after it handed back
@@ -12,6 +13,12 @@ pub record Puts (out : List ℕ) (at size : ℕ) (text : List ℕ) (next : ℕ) 
   pub within : at + size ≤ length out
   pub follows : next ≡ at + size
   pub stores : out' ≡ sets out at text
+
+-- `text`, of this size, is added to a text; it stays the same reference, so that the lender learns what the slice holds
+pub record Adds (t : Text) (size : ℕ) (text : List ℕ) (t' : Text) : Type 0 where
+  pub puts : Puts t.out.now t.at size text t'.at t'.out.now
+  pub same_length : length t'.out.now ≡ length t.out.now
+  pub same_out : t'.out.ghost_name ≡ t.out.ghost_name
 
 -- the constraint that stands in a list after so many others, and its line
 abbrev pub counted_at : ℕ → List ℕ → Counted

@@ -1,8 +1,10 @@
 -- What the stages of `report` promise each other.
 -- Assumes nothing.
-use Rattle.std.specs.Prelude.{ℕ, ◌*◌, ◌≤◌, ◌≡◌, List, ◌++◌, length, if◌then◌else◌}
+use Rattle.std.specs.Prelude.{ℕ, ◌*◌, ◌≤◌, ◌≡◌, List, ◌++◌, length, Option, Some, None, Result, Ok, Err, if◌then◌else◌}
 use Rattle.base.specs.Checks.{Check, Outcome}
-use Rattle.discovery.specs.declared.FindAnswer.{FindAnswer}
+use Rattle.answers.specs.declared.Refusal.{Refusal}
+use Rattle.answers.specs.Answers.{reason_number}
+use Rattle.discovery.specs.declared.Found.{Found}
 use Rattle.discovery.specs.declared.Settings.{Settings}
 use Rattle.discovery.specs.Question.{numbers}
 use Rattle.discovery.specs.Calls.{find_values, with_list, find_said}
@@ -12,18 +14,18 @@ use Rattle.report.specs.Puts.{lines_of}
 use Rattle.report.specs.Report.{settings_laid_out, activities_set, settings_set, log_of, log_question, then_find, checks_to_read, Arrays, filled_by}
 
 -- what the settings line sets
-abbrev pub settings_of : List ℕ → SettingsLine
+abbrev pub settings_of : List ℕ → Option SettingsLine
 settings_of input =
-    if settings_laid_out input then SettingsLine.Set (activities_set input) (settings_set input) else SettingsLine.Malformed
+    if settings_laid_out input then Some (record { activities = activities_set input; settings = settings_set input }) else None
 
 -- how many constraints an answer lists
-abbrev pub number_listed : FindAnswer → ℕ
-number_listed (FindAnswer.Listed found) = found.constraints
-number_listed (FindAnswer.Refused refusal) = 0
+abbrev pub number_listed : Result Found Refusal → ℕ
+number_listed (Ok found) = found.constraints
+number_listed (Err refusal) = 0
 
 -- the answer over a log, and what is left of the list, by the checks up to its find and then the find's; the buffers are filled by the first
 -- alone; what is listed fits the list
-pub record Decides (checks : List Check) (n : ℕ) (settings : Settings) (log : List ℕ) (arrays : Arrays) (answer : FindAnswer) (arrays' : Arrays) : Type 0 where
+pub record Decides (checks : List Check) (n : ℕ) (settings : Settings) (log : List ℕ) (arrays : Arrays) (answer : Result Found Refusal) (arrays' : Arrays) : Type 0 where
   pub finds :
       let q = log_question n settings log in
       Outcome (then_find checks q) (find_values q) (with_list q arrays.list) arrays.list (find_said answer) arrays'.list
@@ -32,11 +34,11 @@ pub record Decides (checks : List Check) (n : ℕ) (settings : Settings) (log : 
   pub fits : numbers * number_listed answer ≤ length arrays'.list
 
 -- the answer to an input
-abbrev pub Decided : List ℕ → Arrays → FindAnswer → Arrays → Type 0
+abbrev pub Decided : List ℕ → Arrays → Result Found Refusal → Arrays → Type 0
 Decided input = Decides (checks_to_read input) (activities_set input) (settings_set input) (log_of input)
 
 -- what is printed of an answer, beside the list that the find wrote
-abbrev pub answer_text : FindAnswer → List ℕ → List ℕ
-answer_text (FindAnswer.Listed found) list =
+abbrev pub answer_text : Result Found Refusal → List ℕ → List ℕ
+answer_text (Ok found) list =
     first_line found.constraints found.replayed found.traces ++ lines_of found.constraints list
-answer_text (FindAnswer.Refused refusal) list = refusal_line refusal.number refusal.detail
+answer_text (Err refusal) list = refusal_line (reason_number refusal.reason) refusal.detail

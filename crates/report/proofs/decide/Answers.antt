@@ -1,50 +1,52 @@
 -- Each way out is one of the first four checks, or the answer to the log.
-use Prim.Native.Nat.{◌-◌}
-use native.Mathlib.Omega.{arith}
-use mathlib.Core.Path.{sym, ◌∙◌}
-use lib.ListN.{length, drop, length-drop}
-use lib.Seq.{take_all}
+use Rattle.std.proofs.Common.{◌≡◌, ◌-◌, sym, ◌∙◌, arith, length, drop, length-drop}
+use Rattle.std.proofs.Math.Seq.{take_all}
+use Rattle.std.proofs.lemmas.Result.{err_from_is_err_and}
+use Rattle.answers.specs.declared.Reason.{Reason}
 use Rattle.eventlog.specs.Calls.{empty}
 use Rattle.report.proofs.Setting.{set_by}
 use Rattle.report.proofs.Deciding.{open_accepted, too_long, malformed, undeclarable, out_of_range, goes_on}
 use Rattle.report.proofs.decide.Goals as goal
 
 pub returns-then-input-gt-MOST_INPUT : goal.returns-then-input-gt-MOST_INPUT
-returns-then-input-gt-MOST_INPUT c = rw c.refused.ensures (too_long _ _ c.if-input-gt-MOST_INPUT.true)
+returns-then-input-gt-MOST_INPUT c = rw c.into.ensures (too_long _ _ c.if-input-gt-MOST_INPUT.true)
 
-pub returns-in_default : goal.returns-in_default
-returns-in_default c =
-    rw c.refused-in_default.ensures
-    (malformed _ _ c.if-input-gt-MOST_INPUT.false (sym c.read_settings.ensures ∙ c.in_default.is))
+pub returns-in_err-activities : goal.returns-in_err-activities
+returns-in_err-activities c =
+    let none = c.in_err-activities.ensures.ok_part in
+    let left = err_from_is_err_and c.from_residual.result c.from_residual.ensures.1 in
+    let malformed_settings : left.0 ≡ record { reason = Reason.Malformed; detail = 0 } = cc (left.2, rw none at c.in_err-activities.ensures.value) in
+    rw (left.1, malformed_settings) (malformed _ _ c.if-input-gt-MOST_INPUT.false (sym c.read_settings.ensures ∙ none))
+
+pub returns-in_err-store : goal.returns-in_err-store
+returns-in_err-store c =
+    let line = set_by (sym c.read_settings.ensures ∙ c.in_ok-activities.ensures.ok_part) in
+    let left = err_from_is_err_and c.from_residual-in_err-store.result c.from_residual-in_err-store.ensures.1 in
+    rw (left.1, left.2) (undeclarable _ _ c.if-input-gt-MOST_INPUT.false _ _ line _ (c.in_err-store.ensures (empty 0)))
 
 pub returns-then-not-in_range : goal.returns-then-not-in_range
 returns-then-not-in_range c =
-    let fresh = open_accepted (c.in-Opened.ensures (empty 0)) in
-    rw c.refused-then-not-in_range.ensures
-    (out_of_range _ _ c.if-input-gt-MOST_INPUT.false _ _ (set_by (sym c.in-Set.ensures)) fresh.declared
-    (sym c.in_range.ensures ∙ c.if-not-in_range.true))
+    let line = set_by (sym c.read_settings.ensures ∙ c.in_ok-activities.ensures.ok_part) in
+    let fresh = open_accepted (c.in_ok-store.ensures (empty 0)) in
+    rw c.into-then-not-in_range.ensures
+    (out_of_range _ _ c.if-input-gt-MOST_INPUT.false _ _ line fresh.declared (sym c.in_range.ensures ∙ c.if-not-in_range.true))
 
 pub slice_bounds-read_and_find-count : goal.slice_bounds-read_and_find-count
-slice_bounds-read_and_find-count c = (set_by (sym c.in-Set.ensures)).long
+slice_bounds-read_and_find-count c = (set_by (sym c.read_settings.ensures ∙ c.in_ok-activities.ensures.ok_part)).long
 
 pub slice_bounds-read_and_find-start : goal.slice_bounds-read_and_find-start
-slice_bounds-read_and_find-start c = (set_by (sym c.in-Set.ensures)).long
+slice_bounds-read_and_find-start c = (set_by (sym c.read_settings.ensures ∙ c.in_ok-activities.ensures.ok_part)).long
 
 pub read_and_find-requires : goal.read_and_find-requires
 read_and_find-requires c =
-    let f = open_accepted (c.in-Opened.ensures (empty 0)) in
-    (rw f.same f.declared, f.no_trace)
+    let fresh = open_accepted (c.in_ok-store.ensures (empty 0)) in
+    (rw fresh.same fresh.declared, fresh.no_trace)
 
-pub returns-else-not-in_range : goal.returns-else-not-in_range
-returns-else-not-in_range c =
+pub returns : goal.returns
+returns c =
     let input = c.args.input.now in
-    let set = set_by (sym c.in-Set.ensures) in
-    let f = open_accepted (c.in-Opened.ensures (empty 0)) in
-    goes_on _ _ c.if-input-gt-MOST_INPUT.false _ _ set f.declared _ (sym c.in_range.ensures ∙ c.if-not-in_range.false)
+    let line = set_by (sym c.read_settings.ensures ∙ c.in_ok-activities.ensures.ok_part) in
+    let fresh = open_accepted (c.in_ok-store.ensures (empty 0)) in
+    goes_on _ _ c.if-input-gt-MOST_INPUT.false _ _ line fresh.declared _ (sym c.in_range.ensures ∙ c.if-not-in_range.false)
     (take_all (length input - 8) (drop 8 input) (omega (arith, length-drop 8 input)))
-    (rw f.same at c.read_and_find.ensures)
-
-pub returns-in-Refused : goal.returns-in-Refused
-returns-in-Refused c =
-    undeclarable _ _ c.if-input-gt-MOST_INPUT.false _ _ (set_by (sym c.in-Set.ensures)) _
-    (c.in-Refused.ensures (empty 0))
+    (rw fresh.same at c.read_and_find.ensures)
