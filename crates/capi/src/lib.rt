@@ -1,213 +1,143 @@
-// The calls for programs in C or Rust: numbers and slices only. include/budgieleaf.h says what each does.
+// The calls for programs in C or Rust: records of numbers, and slices. include/budgieleaf.h says what each does.
 #![tactic(auto)]
 
-ghost use Rattle.std.specs.Prelude.{◌≡◌, [], ◌∷◌};
-ghost use Rattle.answers.specs.Answers.{refusal_said, done_said, count_said};
-ghost use Rattle.eventlog.specs.Store.{sound};
+mod values;
+
+ghost use Rattle.std.specs.Prelude.{◌≡◌, List, ℕ};
+ghost use Rattle.answers.specs.Answers.{said_by, record_after};
+ghost use Rattle.eventlog.specs.Store.{sound, lent};
 ghost use Rattle.eventlog.specs.Calls.{Opens, Adds};
 ghost use Rattle.columns.specs.Calls.{Reads};
-ghost use Rattle.discovery.specs.Calls.{find_said, Finds};
-ghost use Rattle.watcher.specs.Calls.{Starts, Steps};
-ghost use Rattle.capi.specs.Numbers.{store_of, lent_numbers, lent_watched, number_of, InNumbers, Replied, Returned};
+ghost use Rattle.discovery.specs.Calls.{Finds};
+ghost use Rattle.watcher.specs.Calls.{watched, Starts, Steps};
+ghost use Rattle.capi.specs.Numbers.{number_of, InNumbers, Replied, Returned};
 
-use answers::{CountAnswer, DoneAnswer, Refusal};
-use discovery::{FindAnswer, Settings};
-use eventlog::{OpenAnswer, Store};
-use watcher::{MOST_CONSTRAINTS, StartAnswer, Watcher};
+use answers::Refusal;
+use discovery::Settings;
+use eventlog::Store;
+use values::Values;
+use watcher::{MOST_CONSTRAINTS, Watcher};
 
-fn put_answer(answer: &mut [u64; 3], first: u64, second: u64, third: u64)
-    ensures { answer.new ≡ first ∷ second ∷ third ∷ [] }
-{
-    *answer = [first, second, third];
-}
-
-fn put_refusal(answer: &mut [u64; 3], refusal: Refusal) -> u32
-    ensures { InNumbers (refusal_said refusal) result answer.new }
-{
-    put_answer(answer, refusal.detail as u64, 0, 0);
-    refusal.number as u32
-}
-
-fn put_done(answer: &mut [u64; 3], said: DoneAnswer) -> u32
-    ensures { InNumbers (done_said said) result answer.new }
+// The number that a call returns: 0, or the refusal's. 0 and no Option, since C reads it.
+fn number<T>(said: &Result<T, Refusal>) -> u32
+    ensures { (values : T → List ℕ) → result ≡ number_of (said_by values said.now) }
 {
     match said {
-        DoneAnswer::Done => {
-            put_answer(answer, 0, 0, 0);
-            0
-        }
-        DoneAnswer::Refused(refusal) => put_refusal(answer, refusal),
+        Ok(_) => 0,
+        Err(refusal) => u32::from(refusal.reason.number()),
     }
 }
 
-fn put_count(answer: &mut [u64; 3], said: CountAnswer) -> u32
-    ensures { InNumbers (count_said said) result answer.new }
+// What a call says: its number, and the answer written.
+fn put<T: Values + Drop>(answer: &mut [u64; 3], said: Result<T, Refusal>) -> u32
+    ensures { InNumbers (said_by T.values said) result answer.new }
 {
-    match said {
-        CountAnswer::Count(number) => {
-            put_answer(answer, number as u64, 0, 0);
-            0
-        }
-        CountAnswer::Refused(refusal) => put_refusal(answer, refusal),
-    }
-}
-
-fn put_found(answer: &mut [u64; 3], said: FindAnswer) -> u32
-    ensures { InNumbers (find_said said) result answer.new }
-{
-    match said {
-        FindAnswer::Listed(found) => {
-            put_answer(
-                answer,
-                found.constraints as u64,
-                found.replayed as u64,
-                found.traces as u64,
-            );
-            0
-        }
-        FindAnswer::Refused(refusal) => put_refusal(answer, refusal),
-    }
-}
-
-// The calls make the record of its numbers, and take it apart, in place: then what they promise of the memory is what the call below
-// promises, as it stands, and a helper's contract would stand between the two.
-
-#[unsafe(no_mangle)]
-pub extern "C" fn budgieleaf_open(n: u32, store: &mut [u32; 2]) -> u32
-    ensures { Returned (Opens n (store_of store.old)) result (store_of store.new) }
-{
-    match eventlog::open(n) {
-        OpenAnswer::Opened(new) => {
-            *store = [new.activities, new.traces];
-            0
-        }
-        OpenAnswer::Refused(refusal) => refusal.number as u32,
-    }
-}
-
-#[unsafe(no_mangle)]
-pub extern "C" fn budgieleaf_is_sound(store: &[u32; 2], events: &[u8], ends: &[u32]) -> bool
-    ensures { result ≡ sound (lent_numbers store.now events.now ends.now) }
-{
-    let kept = Store {
-        activities: store[0],
-        traces: store[1],
+    let number = number(&said);
+    *answer = match said {
+        Ok(value) => value.numbers(),
+        Err(refusal) => [refusal.detail as u64, 0, 0],
     };
-    eventlog::is_sound(kept, events, ends)
+    number
 }
 
+// A new record in the place of the one there was, where a call made one.
+fn put_record<T: Copy>(record: &mut T, made: Result<T, Refusal>) -> u32
+    ensures stored { record.new ≡ record_after record.old made }
+    ensures number { (values : T → List ℕ) → result ≡ number_of (said_by values made) }
+{
+    let number = number(&made);
+    if let Ok(new) = made {
+        *record = new;
+    }
+    number
+}
+
+#[unsafe(no_mangle)]
+pub extern "C" fn budgieleaf_open(n: u32, store: &mut Store) -> u32
+    ensures { Returned (Opens n store.old) result store.new }
+{
+    put_record(store, eventlog::open(n))
+}
+
+#[unsafe(no_mangle)]
+pub extern "C" fn budgieleaf_is_sound(store: &Store, events: &[u8], ends: &[u32]) -> bool
+    ensures { result ≡ sound (lent store.now events.now ends.now) }
+{
+    eventlog::is_sound(*store, events, ends)
+}
+
+// Add and read look alike: C has a name for each.
 #[unsafe(no_mangle)]
 pub extern "C" fn budgieleaf_add(
-    store: &mut [u32; 2],
+    store: &mut Store,
     events: &mut [u8],
     ends: &mut [u32],
     trace: &[u8],
     answer: &mut [u64; 3],
 ) -> u32
-    ensures { Replied (Adds (lent_numbers store.old events.old ends.old) trace.now)
-        result (lent_numbers store.new events.new ends.new) answer.new }
+    ensures { Replied (Adds (lent store.old events.old ends.old) trace.now)
+        result (lent store.new events.new ends.new) answer.new }
 {
-    let kept = Store {
-        activities: store[0],
-        traces: store[1],
-    };
-    let result = eventlog::add(kept, events, ends, trace);
-    let after = result.store;
-    *store = [after.activities, after.traces];
-    let said = result.answer;
-    put_done(answer, said)
+    put(answer, eventlog::add(store, events, ends, trace))
 }
 
 #[unsafe(no_mangle)]
 pub extern "C" fn budgieleaf_read(
-    store: &mut [u32; 2],
+    store: &mut Store,
     events: &mut [u8],
     ends: &mut [u32],
     log: &[u8],
     answer: &mut [u64; 3],
 ) -> u32
-    ensures { Replied (Reads (lent_numbers store.old events.old ends.old) log.now)
-        result (lent_numbers store.new events.new ends.new) answer.new }
+    ensures { Replied (Reads (lent store.old events.old ends.old) log.now)
+        result (lent store.new events.new ends.new) answer.new }
 {
-    let kept = Store {
-        activities: store[0],
-        traces: store[1],
-    };
-    let result = columns::read(kept, events, ends, log);
-    let after = result.store;
-    *store = [after.activities, after.traces];
-    let said = result.answer;
-    put_count(answer, said)
+    put(answer, columns::read(store, events, ends, log))
 }
 
 #[unsafe(no_mangle)]
 pub extern "C" fn budgieleaf_find(
-    store: &[u32; 2],
+    store: &Store,
     events: &[u8],
     ends: &[u32],
     threshold: u32,
     list: &mut [u16],
     answer: &mut [u64; 3],
 ) -> u32
-    ensures { Replied (Finds (lent_numbers store.now events.now ends.now) (record { threshold = threshold }) list.old)
+    ensures { Replied (Finds (lent store.now events.now ends.now) (record { threshold = threshold }) list.old)
         result list.new answer.new }
 {
-    let kept = Store {
-        activities: store[0],
-        traces: store[1],
-    };
     let settings = Settings { threshold };
-    put_found(answer, discovery::find(kept, events, ends, settings, list))
-}
-
-fn number_of_done(said: DoneAnswer) -> u32
-    ensures { result ≡ number_of (done_said said) }
-{
-    match said {
-        DoneAnswer::Done => 0,
-        DoneAnswer::Refused(refusal) => refusal.number as u32,
-    }
+    put(
+        answer,
+        discovery::find(*store, events, ends, settings, list),
+    )
 }
 
 #[unsafe(no_mangle)]
 pub extern "C" fn budgieleaf_watch_start(
     n: u32,
-    watcher: &mut [u32; 3],
+    watcher: &mut Watcher,
     constraints: &[u16],
     states: &mut [u8; MOST_CONSTRAINTS],
     told: &mut [u8; MOST_CONSTRAINTS],
 ) -> u32
-    ensures { Returned (Starts n constraints.now (lent_watched watcher.old states.old told.old))
-        result (lent_watched watcher.new states.new told.new) }
+    ensures { Returned (Starts n constraints.now (watched watcher.old states.old told.old))
+        result (watched watcher.new states.new told.new) }
 {
-    match watcher::start(n, constraints, states, told) {
-        StartAnswer::Started(new) => {
-            *watcher = [new.activities, new.constraints, new.taken];
-            0
-        }
-        StartAnswer::Refused(refusal) => refusal.number as u32,
-    }
+    put_record(watcher, watcher::start(n, constraints, states, told))
 }
 
 #[unsafe(no_mangle)]
 pub extern "C" fn budgieleaf_watch_step(
-    watcher: &mut [u32; 3],
+    watcher: &mut Watcher,
     constraints: &[u16],
     states: &mut [u8; MOST_CONSTRAINTS],
     told: &mut [u8; MOST_CONSTRAINTS],
     activity: u32,
 ) -> u32
-    ensures { Returned (Steps constraints.now (lent_watched watcher.old states.old told.old) activity)
-        result (lent_watched watcher.new states.new told.new) }
+    ensures { Returned (Steps constraints.now (watched watcher.old states.old told.old) activity)
+        result (watched watcher.new states.new told.new) }
 {
-    let kept = Watcher {
-        activities: watcher[0],
-        constraints: watcher[1],
-        taken: watcher[2],
-    };
-    let result = watcher::step(kept, constraints, states, told, activity);
-    let after = result.watcher;
-    *watcher = [after.activities, after.constraints, after.taken];
-    let said = result.answer;
-    number_of_done(said)
+    number(&watcher::step(watcher, constraints, states, told, activity))
 }
