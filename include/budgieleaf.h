@@ -136,7 +136,7 @@ uint32_t budgieleaf_find(const uint32_t store[2], const uint8_t *events, size_t 
  *   states       256 bytes, one for each constraint: the states of their automata. Nothing else need be known of them.
  *   told         256 bytes, one for each constraint: the state told, 0 to 3.
  * Bytes of both arrays past the last constraint are never written, and nothing need be set before the start. That is 524
- * bytes beside the constraints; a step takes 1,072 bytes of stack on x86-64, and so does a start. A step first puts a
+ * bytes beside the constraints; a step takes 1,104 bytes of stack on x86-64, a start 1,088. A step first puts a
  * table of 1,024 bytes onto the stack, some 160 instructions with its checks, and then goes over the constraints once,
  * front to back, with the same work for each whatever its template and state: two comparisons and two look-ups, 16
  * instructions. The time does not grow with the length of the run.

@@ -49,3 +49,15 @@ fn names_of_templates() {
     assert_eq!(readme, header);
     assert!(readme.iter().map(|row| row[0].clone()).eq((1..=24).map(|k| k.to_string())), "{readme:?}");
 }
+
+/// The archive needs the C library's memset and nothing else, as the header says.
+#[test]
+fn archive_needs_memset_alone() {
+    let archive = root().join("target/staticlib/libcapi.a");
+    let listed = std::process::Command::new("nm").arg("-u").arg(archive).output().unwrap();
+    let text = String::from_utf8(listed.stdout).unwrap();
+    let mut names: Vec<_> = text.lines().filter_map(|line| line.trim().strip_prefix("U ")).collect();
+    names.sort_unstable();
+    names.dedup();
+    assert_eq!(names, ["memset"]);
+}
