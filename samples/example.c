@@ -2,7 +2,7 @@
  * A whole program over include/budgieleaf.h: reads a log, adds a trace by hand, and lists the rules that nine of ten traces
  * fulfil. From the root of the repository:
  *
- *     rt staticlib capi
+ *     tools/build
  *     gcc -std=c99 -Wall -Wextra -I include samples/example.c target/staticlib/libcapi.a -o target/example && target/example
  */
 #include <inttypes.h>

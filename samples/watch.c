@@ -2,7 +2,7 @@
  * A whole program over include/budgieleaf.h: watches one run step by step, and stops at the first rule that can no longer
  * hold. From the root of the repository:
  *
- *     rt staticlib capi
+ *     tools/build
  *     gcc -std=c99 -Wall -Wextra -I include samples/watch.c target/staticlib/libcapi.a -o target/watch && target/watch
  */
 #include <inttypes.h>
