@@ -1,6 +1,6 @@
--- Counting over the kept traces: how many these are, what a chain over them counts, and that replay counts those that are fulfilled.
+-- Counting over the kept traces: how many these are, what chains over them count, and that replay counts those that are fulfilled.
 -- Assumes nothing.
-use Prim.Native.Nat.{ℕ, ◌≤◌}
+use Prim.Native.Nat.{ℕ, ◌≤◌, ◌+◌, ◌<◌}
 use mathlib.Core.Path.{◌≡◌, refl, sym, ap, ◌∙◌}
 use mathlib.Core.Bool.{Bool, true, false, ◌&&◌}
 use mathlib.Core.List.{List}
@@ -8,13 +8,17 @@ use native.Mathlib.Omega.{arith}
 use lib.ListN.{length}
 use denote.Param.Members.{Mut}
 use denote.Ref.{Bor}
-use Rattle.std.specs.Prelude.{if◌then◌else◌}
-use Rattle.std.specs.Fn.{CalledAt}
+use Rattle.std.specs.Prelude.{if◌then◌else◌, cond, map, ⊤}
+use Rattle.std.specs.Fn.{Called, CalledAt}
 use Rattle.std.specs.Iterator.{YieldsFirstRef, Drains}
-use Rattle.std.specs.Iterator.Adapters.{filter_steps}
+use Rattle.std.specs.Iterator.Adapters.{filter_steps, map_steps}
+use Rattle.std.specs.Iterator.Runs.{EachRunFrom}
 use Rattle.std.specs.declared.iter.Filter.{Filter}
-use Rattle.std.proofs.lemmas.Iterator.Consumers.{count_from_yields_List, YieldsList-from_filter, YieldsList-from_first}
-use Rattle.std.specs.List.{filter}
+use Rattle.std.specs.declared.iter.Map.{Map}
+use Rattle.std.proofs.lemmas.Iterator.{YieldsList, YieldsList-from_map}
+use Rattle.std.proofs.lemmas.Iterator.Consumers.{count_from_yields_List, YieldsList-from_filter, sum_by_from_yields_List, fits_by_from_yields_list, YieldsList-from_first}
+use Rattle.std.proofs.lemmas.List.Sums.{length-filter}
+use Rattle.std.specs.List.{filter, fold}
 use Rattle.declare.specs.declared.Verdict.TheVariants.{Fulfilled, NotActivated, Violated}
 use Rattle.declare.specs.declared.Moves.{Moves}
 use Rattle.declare.specs.declared.constraints.Constraint.{Constraint}
@@ -25,7 +29,7 @@ use Rattle.declare.proofs.Following.{followed_constraint}
 use Rattle.eventlog.specs.Store.{Memory, kept, all_below, sound}
 use Rattle.eventlog.proofs.Laws.{sound_facts, kept_declared, kept_length}
 use Rattle.base.specs.Lists.{non_empty, count}
-use Rattle.base.proofs.Lists.{all_filter, count_same, count_filter}
+use Rattle.base.proofs.Lists.{all_filter, count_same, count_filter, count_at_most}
 use Rattle.discovery.specs.Question.{fulfilments}
 use Rattle.discovery.specs.Passes.{is_fulfilled, replays_fulfilled, AtMostAll}
 use Rattle.discovery.proofs.Listing.{few_numbers}
@@ -37,6 +41,10 @@ few_kept m h = omega (arith, kept_length m h, (sound_facts m h).few_traces)
 pub few_activities : (m : Memory) → sound m ≡ true → m.store.activities ≤ 32
 few_activities m h = (sound_facts m h).few_activities
 
+-- of length 1 or more, and passing a test
+abbrev some_passing : (List ℕ → Bool) → List ℕ → Bool
+some_passing p t = non_empty t && p t
+
 -- a chain over traces that filters by a closure and counts: where the closure computes that a trace is of length 1 or more and passes, it
 -- gives how many of length 1 or more pass
 pub counted :
@@ -47,8 +55,29 @@ pub counted :
     n ≡ count p (filter non_empty traces)
 counted {g = g} {s = s} {traces = traces} {n = n} p source callee calls ran =
     count_from_yields_List s n ran
-    (YieldsList-from_filter g (λ t. non_empty t && p t) (YieldsList-from_first (λ t. t.now) (λ traces. traces) traces source) callee calls)
+    (YieldsList-from_filter g (some_passing p) (YieldsList-from_first (λ t. t.now) (λ traces. traces) traces source) callee calls)
     ∙ sym (count_filter non_empty p traces)
+
+-- a chain over traces that makes a number of each by a closure and adds them up: where the closure computes 1 of a trace of length 1 or more
+-- that passes, and else 0, the sum fits, and is how many of length 1 or more pass
+module _
+    {F : Type 0} {g : Mut F (Bor (List ℕ) × Unit {0}) ℕ} {f : F} {s : Map (List (List ℕ)) F} {traces : List (List ℕ)} (p : List ℕ → Bool)
+    (source : s.iter ≡ traces) (callee : s.f ≡ f)
+    (calls : (trace : Bor (List ℕ)) (n : ℕ) (f' : F) → Called g f (trace, tt) n f' → (f' ≡ f) × (n ≡ cond (some_passing p trace.now) 1 0)) where
+  ones : YieldsList (map_steps (YieldsFirstRef (λ traces. traces)) g) (λ n. n) s (map (λ t. cond (some_passing p t) 1 0) traces)
+  ones = YieldsList-from_map g _ (YieldsList-from_first (λ t. t.now) (λ traces. traces) traces source) callee calls
+
+  pub sum_fits : length traces ≤ 4095 → EachRunFrom (map_steps (YieldsFirstRef (λ traces. traces)) g) s (λ p. fold (λ a x. a + x) 0 p.items < 4294967296)
+  sum_fits few =
+      fits_by_from_yields_list _ traces s 4294967296 ones
+      (omega (arith, length-filter (some_passing p) traces, count_at_most (some_passing p) traces, few))
+
+  pub summed :
+      {n : ℕ} → ((xs : List ℕ) × (⊤ → Drains (map_steps (YieldsFirstRef (λ traces. traces)) g) s xs) × (n ≡ fold (λ a x. a + x) 0 xs)) →
+      n ≡ count p (filter non_empty traces)
+  summed {n} ran =
+      sum_by_from_yields_List _ traces s n ran ones
+      ∙ sym (length-filter (some_passing p) traces) ∙ sym (count_filter non_empty p traces)
 
 verdict_fulfilled : (t a b : ℕ) (trace : List ℕ) → is_fulfilled (verdict t a b trace) ≡ fulfilled t a b trace
 unfolding fulfilled verdict

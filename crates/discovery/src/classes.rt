@@ -1,6 +1,7 @@
 // Pruning: the classes of constraints, their support, and what is kept.
-ghost use Rattle.std.specs.Prelude.{◌≡◌, ◌==◌};
+ghost use Rattle.std.specs.Prelude.{◌≡◌, ◌==◌, ◌&&◌};
 ghost use Rattle.std.specs.List.{list_any};
+ghost use Rattle.base.specs.Lists.{non_empty};
 ghost use Rattle.discovery.specs.Question.{class_of, counts_for, support as support_of, survives as survives_test};
 ghost use Rattle.discovery.specs.Passes.{asked_by};
 
@@ -38,15 +39,15 @@ fn has(trace: &[u8], activity: u8) -> bool
     trace.iter().any(|&event| event == activity)
 }
 
-// Whether a trace counts for a class of pruning.
+// Whether a trace counts for a class of pruning: an empty one for none, in three of the four since no activity occurs in it.
 // A match by class and no closure for each: which one to take would be this same match.
 #[tactic(auto, using(crate::proofs::classes::Occurrence::occurs_any))]
 fn counts_for(class: Class, a: u8, b: u8, trace: &[u8]) -> bool
-    ensures { result ≡ counts_for class a b trace.now }
+    ensures { result ≡ (non_empty trace.now && counts_for class a b trace.now) }
 {
     match class {
         Class::WithA => has(trace, a),
-        Class::All => true,
+        Class::All => !trace.is_empty(),
         Class::Either => has(trace, a) || has(trace, b),
         Class::Both => has(trace, a) && has(trace, b),
     }
@@ -61,7 +62,7 @@ impl<'a> Query<'a> {
     {
         self.sound
             .traces()
-            .filter(|trace| !trace.is_empty() && counts_for(class, c.a, c.b, trace))
+            .filter(|trace| counts_for(class, c.a, c.b, trace))
             .count() as u32
     }
 

@@ -34,7 +34,6 @@ fn is_fulfilled(moves: &Moves, trace: &[u8]) -> bool
 impl<'a> Query<'a> {
     // Replays a constraint over the store, by its template's automaton. Only what pruning keeps may be replayed: the first clause. The
     // moves are made once for all its traces.
-    #[tactic(auto, using(crate::proofs::Counting::few_kept))]
     pub(crate) fn replay(self, c: Constraint, automaton: Automaton, replayed: u32) -> Replayed
         requires kept { Kept (asked_by self) automaton c }
         requires at_most_all { AtMostAll self.sound.store.activities replayed }
@@ -42,11 +41,12 @@ impl<'a> Query<'a> {
     {
         let moves = automaton.moves(c.a, c.b);
         let traces = self.sound.traces();
+        // Added up, and not filtered and counted: a sum makes no jump, and where traces are short that shows.
         let fulfilled = traces
-            .filter(|trace| !trace.is_empty() && is_fulfilled(&moves, trace))
-            .count();
+            .map(|trace| u32::from(!trace.is_empty() && is_fulfilled(&moves, trace)))
+            .sum();
         Replayed {
-            fulfilled: fulfilled as u32,
+            fulfilled,
             replayed: replayed + 1,
         }
     }

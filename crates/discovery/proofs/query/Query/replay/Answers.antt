@@ -5,7 +5,7 @@ use Rattle.declare.specs.Automata.{moves_of}
 use Rattle.eventlog.specs.Store.{kept}
 use Rattle.eventlog.specs.SoundStore.{memory_of}
 use Rattle.discovery.specs.Passes.{replays_fulfilled}
-use Rattle.discovery.proofs.Counting.{counted, replay_counts, few_constraints}
+use Rattle.discovery.proofs.Counting.{summed, sum_fits, replay_counts, few_kept, few_constraints}
 use Rattle.discovery.proofs.query.Query.replay.Goals as goal
 
 pub returns : goal.returns
@@ -15,12 +15,18 @@ returns c =
     let moves = c.moves-moves.ensures ∙ ap (λ automaton. record { to = moves_of automaton h.a h.b; verdicts = automaton.verdicts }) c.requires.kept.of_template in
     record {
       fulfilled =
-          counted (replays_fulfilled c.moves-moves.result) (c.filter.ensures.source ∙ c.traces-traces.ensures) c.filter.ensures.closure
-          (λ trace b f k. search (rules, tests)) c.count-fulfilled.ensures.ran
+          summed (replays_fulfilled c.moves-moves.result) (c.map.ensures.source ∙ c.traces-traces.ensures) c.map.ensures.closure
+          (λ trace n f k. search (rules, tests)) c.sum-fulfilled.ensures.ran
           ∙ ap (λ moves. count (replays_fulfilled moves) (filter non_empty (kept m))) moves
           ∙ replay_counts m h c.args.self.sound.is_sound c.requires.kept.over;
       counted = refl;
     }
+
+pub sum-fulfilled-requires-clause-fits : goal.sum-fulfilled-requires-clause-fits
+sum-fulfilled-requires-clause-fits c =
+    let kept = c.args.self.sound in
+    sum_fits (replays_fulfilled c.moves-moves.result) (c.map.ensures.source ∙ c.traces-traces.ensures) c.map.ensures.closure
+    (λ trace n f k. search (rules, tests)) (few_kept (memory_of kept) kept.is_sound)
 
 pub overflow_add-result : goal.overflow_add-result
 overflow_add-result c =
