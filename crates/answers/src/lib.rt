@@ -42,7 +42,7 @@ impl Reason {
     }
 }
 
-// A refusal, with its detail: 0 unless documents 01 and 02 name another.
+// A refusal, with its detail: 0 unless documents 01 and 02 name another. They fix the 0, so it is no Option.
 #[derive(Clone, Copy, Debug, PartialEq, Eq)]
 pub struct Refusal {
     pub reason: Reason,

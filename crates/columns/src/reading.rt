@@ -28,7 +28,7 @@ impl Reading {
         ensures room { result.room ≡ room_in (memory_of store.entry) }
         ensures at { result.at ≡ at_start (room_in (memory_of store.entry)) }
     {
-        let room = eventlog::room_of(store.store, store.events, store.ends);
+        let room = store.room();
         Reading {
             room,
             at: Progress {

@@ -72,8 +72,8 @@ impl<'a> Query<'a> {
             listed: 0,
             replayed: 0,
         };
-        // At first of no template, number 0: with an Option each step would ask whether there is one.
-        let mut class = AtHand::<Class>::new(0);
+        // The automaton is at first that of no template, number 0: with an Option each step would ask whether there is one.
+        let mut class = AtHand::<Class>::new(1);
         let mut automaton = AtHand::<Automaton>::new(0);
         for c in Constraints::over(self.sound.store.activities as u8) {
             class = class.on_to(c.template);

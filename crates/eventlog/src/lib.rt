@@ -147,16 +147,14 @@ fn place_for(store: Store, events: &[u8], ends: &[u32], trace: &[u8]) -> Result<
     ensures says { said_by (λ place. []) result ≡ reply (checks_of_add (lent store events.now ends.now) trace.now) [] }
     ensures place { IfOk result (λ place. place ≡ last_end_of (lent store events.now ends.now)) }
 {
-    if !is_sound(store, events, ends) {
-        return Err(Reason::NotSound.into());
-    }
+    let sound = SoundStore::new(store, events, ends).ok_or(Reason::NotSound)?;
     if let Some(place) = first_undeclared(store.activities, trace) {
         return Err(Reason::Undeclared.with(place + 1));
     }
     if (LONGEST_TRACE as usize) < trace.len() {
         return Err(Reason::TooLong.into());
     }
-    let room = room_of(store, events, ends);
+    let room = sound.room();
     if room.is_full() {
         return Err(Reason::Full.into());
     }
@@ -167,7 +165,8 @@ fn place_for(store: Store, events: &[u8], ends: &[u32], trace: &[u8]) -> Result<
     Ok(last)
 }
 
-// By index: `copy_from_slice` calls memmove, which the archive for C would then need.
+// By index: `copy_from_slice` calls memmove, which the archive for C would then need. From a place on, and no part of the events: it would have
+// to be said as long as the trace.
 fn copy_in(events: &mut [u8], from: usize, trace: &[u8])
     requires { from + length trace.now ≤ length events.old }
     ensures { events.new ≡ sets events.old from trace.now }

@@ -2,7 +2,7 @@
 ghost use Rattle.std.specs.Prelude.{◌≡◌, true};
 ghost use Rattle.eventlog.specs.Store.{lent, sound};
 
-use crate::{KeptTraces, Store};
+use crate::{KeptTraces, Room, Store};
 
 // A record beside the buffers that it is sound with. The functions before the test are lent the three apart, as C lends them.
 #[derive(Clone, Copy)]
@@ -15,7 +15,7 @@ pub struct SoundStore<'a> {
 
 impl<'a> SoundStore<'a> {
     ghost use Rattle.std.specs.Prelude.{◌≡◌, false, MatchOption};
-    ghost use Rattle.eventlog.specs.Store.{lent, sound, kept};
+    ghost use Rattle.eventlog.specs.Store.{lent, sound, kept, room as room_in};
     ghost use Rattle.eventlog.specs.SoundStore.{memory_of};
 
     // The test for soundness.
@@ -31,6 +31,13 @@ impl<'a> SoundStore<'a> {
         } else {
             None
         }
+    }
+
+    // What is left in it.
+    pub fn room(self) -> Room
+        ensures { result ≡ room_in (memory_of self.entry) }
+    {
+        crate::room_of(self.store, self.events, self.ends)
     }
 
     pub fn traces(self) -> KeptTraces<'a>

@@ -72,7 +72,7 @@ pub fn put_field(field: &mut [u8], n: usize)
 {
     let mut byte = b'0' + (n % 10) as u8;
     let mut rest = n / 10;
-    // By index: with iter_mut the contract was left open, since a proof then knows no element of the field.
+    // By index: with iter_mut().rev() the contract was left open, since a proof knows nothing of elements so written.
     for i in (0..field.len()).rev() {
         field[i] = byte;
         byte = column(rest);

@@ -26,10 +26,12 @@ fn main(rt: HostRuntime) -> io::Result<()> {
     // One byte more than is allowed, to see that there are more.
     let mut input = [0u8; report::MOST_INPUT + 1];
     let n = read_full(&mut rt.reader(), &mut input)?;
-    let mut events = [0u8; report::LENT_EVENTS];
-    let mut ends = [0u32; report::LENT_ENDS];
-    let mut list = [0u16; report::LIST];
+    let mut arrays = report::Arrays {
+        events: [0; report::LENT_EVENTS],
+        ends: [0; report::LENT_ENDS],
+        list: [0; report::LIST],
+    };
     let mut out = [0u8; report::OUT];
-    let written = report::report(&input[..n], &mut events, &mut ends, &mut list, &mut out);
+    let written = report::report(&input[..n], &mut arrays, &mut out);
     rt.stdout().write_all(&out[..written])
 }

@@ -20,7 +20,8 @@ use Rattle.columns.specs.Log.{log_checks}
 use Rattle.discovery.specs.declared.Found.{Found}
 use Rattle.discovery.specs.declared.Settings.{Settings}
 use Rattle.discovery.specs.Calls.{threshold_in_range, settings_checks}
-use Rattle.report.specs.Report.{most_input, settings_set, log_of, room_lent, checks_to_read, Arrays}
+use Rattle.report.specs.declared.Arrays.{Arrays}
+use Rattle.report.specs.Report.{most_input, settings_set, log_of, room_lent, checks_to_read}
 use Rattle.report.specs.Stages.{settings_of, Decides, Decided}
 use Rattle.report.proofs.Setting.{LaidOut, malformed_by}
 use Rattle.report.proofs.Reading.{refusal_decides}

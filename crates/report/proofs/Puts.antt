@@ -1,22 +1,19 @@
 -- Texts put one after the other.
 -- Assumes nothing.
-use Prim.Native.Nat.{ℕ, zero, suc, ◌+◌, ◌-◌, ◌*◌, ◌≤◌, ◌<◌}
-use native.Mathlib.Nat.{add-zero}
+use Prim.Native.Nat.{ℕ, zero, suc, ◌+◌, ◌-◌, ◌≤◌, ◌<◌}
 use native.Mathlib.Omega.{arith}
 use mathlib.Core.Path.{◌≡◌, refl, sym, ap, ◌∙◌}
-use mathlib.Core.List.{List, ◌++◌, append-nil, append_assoc}
-use lib.ListN.{length, get_or, take, drop, length-append, length-take, length-drop, get_or-append}
-use lib.Seq.{length-sets, get_or-drop, drop-drop, drop-append_seam}
-use Rattle.std.proofs.lemmas.List.{get_or-take}
-use Rattle.std.specs.Prelude.{Some}
-use Rattle.std.specs.declared.slice.ChunksExact.{ChunksExact}
-use Rattle.std.specs.Slice.Iter.{chunks_exact_rest, chunks_exact_size, chunks_exact_steps}
-use Rattle.std.specs.Borrow.{Bor, MutBor}
-use Rattle.fields.proofs.Columns.{part_filled}
-use Rattle.discovery.specs.Question.{numbers}
-use Rattle.report.specs.Puts.{Puts, Adds, counted_at, line_at, lines_of}
-use Rattle.report.specs.declared.text.Text.{Text}
+use mathlib.Core.List.{List, [], ◌∷◌, ◌++◌, append-nil}
+use lib.ListN.{length, get_or, take, drop, length-append}
+use lib.Seq.{length-sets}
+use Rattle.std.proofs.lemmas.List.{take_more}
+use Rattle.std.specs.Simd.{first_chunks}
+use Rattle.std.specs.Borrow.{MutBor}
+use Rattle.base.proofs.Lists.{flat_map_append}
 use Rattle.base.proofs.Stores.{sets_append}
+use Rattle.fields.proofs.Columns.{part_filled}
+use Rattle.report.specs.declared.text.Text.{Text}
+use Rattle.report.specs.Puts.{Puts, Adds, counted, printed_line, lines_of}
 
 put_then :
     {out out' out'' xs ys : List ℕ} {at m n next next' : ℕ} →
@@ -64,59 +61,19 @@ put_same {at = at} e p =
       stores = rw e at p.stores;
     }
 
--- ## Lines of a list
+-- ## Rows of a list
 
-line_after : (k : ℕ) (list : List ℕ) → line_at k (drop numbers list) ≡ line_at (suc k) list
-line_after k list =
-    let e : numbers + numbers * k ≡ numbers * suc k = omega arith in
-    let place : (i : ℕ) → numbers + (numbers * k + i) ≡ numbers * suc k + i = λ i. omega arith in
-    simp (get_or-drop numbers list, e, place)
+-- the first of the first rows
+pub first_rows : (n k m : ℕ) (list : List ℕ) → k ≤ m → take k (first_chunks n m list) ≡ first_chunks n k list
+first_rows n zero m list h = refl
+first_rows n (suc k) zero list h = absurd (omega (arith, h))
+first_rows n (suc k) (suc m) list h = ap (λ (rows : List (List ℕ)). take n list ∷ rows) (first_rows n k m (drop n list) (omega (arith, h)))
 
--- the lines of one constraint more
-pub lines_more : (k : ℕ) (list : List ℕ) → lines_of (suc k) list ≡ lines_of k list ++ line_at k list
-lines_more zero list = append-nil (line_at 0 list)
-lines_more (suc k) list =
-    ap (λ (l : List ℕ). line_at 0 list ++ l) (lines_more k (drop numbers list))
-    ∙ sym (append_assoc (line_at 0 list) (lines_of k (drop numbers list)) (line_at k (drop numbers list)))
-    ∙ ap (λ (l : List ℕ). line_at 0 list ++ lines_of k (drop numbers list) ++ l) (line_after k list)
-
--- The rows of a list's first constraints, cut off its front one after the other: a row is the constraint behind as many others.
-module _ (k count : ℕ) (list : List ℕ) (s t : ChunksExact ℕ) (row : Bor (List ℕ)) (fours : chunks_exact_size s ≡ numbers)
-    (rest : chunks_exact_rest s ≡ drop (numbers * k) (take (numbers * count) list)) (step : chunks_exact_steps s (Some row) t) where
-  abbrev rows : List ℕ
-  rows = take (numbers * count) list
-
-  long : length row.now ≡ numbers
-  long = step.1.1 ∙ fours
-
-  cut : row.now ++ chunks_exact_rest t ≡ drop (numbers * k) rows
-  cut = sym step.1.0 ∙ rest
-
-  number_at : (i : ℕ) → i < numbers → get_or row.now i 0 ≡ get_or list (numbers * k + i) 0
-  number_at i h =
-      let fits : numbers * k + i < numbers * count =
-      omega (
-        arith,
-        long,
-        ap length cut,
-        length-append row.now (chunks_exact_rest t),
-        length-drop (numbers * k) rows,
-        length-take (numbers * count) list,
-      ) in
-      sym (get_or-append row.now (chunks_exact_rest t) 0 i (omega (arith, long)))
-      ∙ ap (λ (l : List ℕ). get_or l i 0) cut ∙ get_or-drop (numbers * k) rows i 0 ∙ get_or-take (numbers * count) list (numbers * k + i) 0 fits
-
-  pub row_counted : counted_at 0 row.now ≡ counted_at k list
-  row_counted =
-      let first = number_at 0 (omega arith) ∙ ap (λ (i : ℕ). get_or list i 0) (add-zero (numbers * k)) in
-      λ i. record {
-        template = first i;
-        a = number_at 1 (omega arith) i;
-        b = number_at 2 (omega arith) i;
-        count = number_at 3 (omega arith) i;
-      }
-
-  pub rows_after : chunks_exact_rest t ≡ drop (numbers * (k + 1)) rows
-  rows_after =
-      let more : numbers * k + numbers ≡ numbers * (k + 1) = omega arith in
-      sym (drop-append_seam row.now (chunks_exact_rest t)) ∙ rw (long, cut, drop-drop numbers (numbers * k) rows, more) refl
+-- the lines of one row more
+pub lines_more :
+    (rows : List (List ℕ)) (k : ℕ) → k < length rows →
+    lines_of (take (k + 1) rows) ≡ lines_of (take k rows) ++ printed_line (counted (get_or rows k []))
+lines_more rows k h =
+    ap lines_of (take_more rows k [] h)
+    ∙ flat_map_append (λ row. printed_line (counted row)) (take k rows) (get_or rows k [] ∷ [])
+    ∙ ap (λ (l : List ℕ). lines_of (take k rows) ++ l) (append-nil (printed_line (counted (get_or rows k []))))

@@ -27,7 +27,8 @@ use Rattle.discovery.specs.declared.Settings.{Settings}
 use Rattle.discovery.specs.Question.{Question, asked, listed, numbers, layout}
 use Rattle.discovery.specs.Calls.{find_checks, find_values, with_list, find_said, Finds}
 use Rattle.discovery.proofs.FindContract.{find_passed}
-use Rattle.report.specs.Report.{lent_space, lent_constraints, lent_list, log_question, then_find, room_lent, Arrays, empty_store}
+use Rattle.report.specs.declared.Arrays.{Arrays}
+use Rattle.report.specs.Report.{lent_space, lent_constraints, lent_list, log_question, then_find, room_lent, empty_store}
 use Rattle.report.specs.Stages.{number_listed, Decides}
 
 -- the two buffers are as long as those that the program lends

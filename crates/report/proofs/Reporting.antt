@@ -8,6 +8,7 @@ use mathlib.Core.List.{List, [], ◌∷◌, ◌++◌}
 use lib.ListN.{length, drop, length-append}
 use lib.Seq.{sets, sets-eq, length-sets}
 use Rattle.std.specs.Prelude.{Result, Ok, Err}
+use Rattle.std.specs.Simd.{first_chunks}
 use Rattle.base.specs.Lists.{flat_map}
 use Rattle.base.specs.Checks.{Check, reply}
 use Rattle.base.proofs.Checks.{none_fail_reply, refused_same}
@@ -19,9 +20,10 @@ use Rattle.discovery.specs.declared.Settings.{Settings}
 use Rattle.discovery.specs.Question.{Question, trace_count, fulfilments, listed, replayed, numbers, layout}
 use Rattle.discovery.specs.Calls.{find_values, with_list}
 use Rattle.discovery.proofs.Listing.{layout_length}
+use Rattle.report.specs.declared.Arrays.{Arrays}
 use Rattle.report.specs.Print.{constraint_line, found_text}
 use Rattle.report.specs.Puts.{Puts, lines_of}
-use Rattle.report.specs.Report.{activities_set, settings_set, log_of, log_question, then_find, checks_to_read, checks_of_report, printed, output_of, Arrays, Reports}
+use Rattle.report.specs.Report.{activities_set, settings_set, log_of, log_question, then_find, checks_to_read, checks_of_report, printed, output_of, Reports}
 use Rattle.report.specs.Stages.{Decides, Decided, answer_text}
 use Rattle.report.proofs.Puts.{put_same}
 
@@ -31,13 +33,15 @@ module _ (q : Question) where
   abbrev lines_for : List Constraint → List ℕ
   lines_for cs = flat_map cs λ c. constraint_line c.template c.a c.b (fulfilments q.traces c)
 
-  lines_laid_out : (cs : List Constraint) (rest : List ℕ) → lines_of (length cs) (layout q cs ++ rest) ≡ lines_for cs
+  lines_laid_out :
+      (cs : List Constraint) (rest : List ℕ) → lines_of (first_chunks numbers (length cs) (layout q cs ++ rest)) ≡ lines_for cs
   unfolding layout
   lines_laid_out [] rest = refl
   lines_laid_out (c ∷ cs) rest = rw (lines_laid_out cs rest)
 
   lines_listed :
-      (cs : List Constraint) (list : List ℕ) → numbers * length cs ≤ length list → lines_of (length cs) (sets list 0 (layout q cs)) ≡ lines_for cs
+      (cs : List Constraint) (list : List ℕ) → numbers * length cs ≤ length list →
+      lines_of (first_chunks numbers (length cs) (sets list 0 (layout q cs))) ≡ lines_for cs
   lines_listed cs list h =
       rw (sets-eq (layout q cs) list 0 (omega (arith, layout_length q cs))) (lines_laid_out cs (drop (0 + length (layout q cs)) list))
 

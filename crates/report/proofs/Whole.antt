@@ -23,9 +23,10 @@ use Rattle.discovery.specs.declared.Settings.{Settings}
 use Rattle.discovery.specs.Question.{Question, fulfilments, listed, replayed}
 use Rattle.discovery.specs.Calls.{find_checks}
 use Rattle.discovery.proofs.Listing.{listed_exactly, replayed_at_most, listed_within_replayed, few_numbers}
+use Rattle.report.specs.declared.Arrays.{Arrays}
 use Rattle.report.specs.Print.{number_width, detail_width}
 use Rattle.report.specs.Report.{most_input, lent_space, lent_list, log_of, activities_set, settings_set}
-use Rattle.report.specs.Report.{log_question, question_set, room_lent, checks_to_read, checks_of_report, Arrays, empty_store}
+use Rattle.report.specs.Report.{log_question, question_set, room_lent, checks_to_read, checks_of_report, empty_store}
 use Rattle.report.specs.Whole.{WholeLines, Whole}
 use Rattle.report.proofs.Reading.{Buffers, filled}
 

@@ -1,8 +1,8 @@
 -- What the functions that write text promise each other.
 -- Assumes nothing.
-use Rattle.std.specs.Prelude.{ℕ, zero, suc, ◌+◌, ◌*◌, ◌≤◌, ◌≡◌, List, [], ◌++◌, length, get_or, drop}
+use Rattle.std.specs.Prelude.{ℕ, ◌+◌, ◌≤◌, ◌≡◌, List, length, get_or}
 use Rattle.std.proofs.lemmas.List.Edits.{sets}
-use Rattle.discovery.specs.Question.{numbers}
+use Rattle.base.specs.Lists.{flat_map}
 use Rattle.report.specs.declared.text.Counted.{Counted}
 use Rattle.report.specs.declared.text.Text.{Text}
 use Rattle.report.specs.Print.{constraint_line}
@@ -20,23 +20,13 @@ pub record Adds (t : Text) (size : ℕ) (text : List ℕ) (t' : Text) : Type 0 w
   pub same_length : length t'.out.now ≡ length t.out.now
   pub same_out : t'.out.ghost_name ≡ t.out.ghost_name
 
--- the constraint that stands in a list after so many others, and its line
-abbrev pub counted_at : ℕ → List ℕ → Counted
-counted_at k list =
-    record {
-      template = get_or list (numbers * k) 0;
-      a = get_or list (numbers * k + 1) 0;
-      b = get_or list (numbers * k + 2) 0;
-      count = get_or list (numbers * k + 3) 0;
-    }
+-- the constraint that a row of the list holds, and its line
+abbrev pub counted : List ℕ → Counted
+counted row = record { template = get_or row 0 0; a = get_or row 1 0; b = get_or row 2 0; count = get_or row 3 0 }
 
 abbrev pub printed_line : Counted → List ℕ
 printed_line c = constraint_line c.template c.a c.b c.count
 
-abbrev pub line_at : ℕ → List ℕ → List ℕ
-line_at k list = printed_line (counted_at k list)
-
--- the lines of a list's first constraints
-abbrev pub lines_of : ℕ → List ℕ → List ℕ
-lines_of zero list = []
-lines_of (suc more) list = line_at 0 list ++ lines_of more (drop numbers list)
+-- the lines of rows of the list
+abbrev pub lines_of : List (List ℕ) → List ℕ
+lines_of rows = flat_map rows λ row. printed_line (counted row)

@@ -12,6 +12,7 @@ use Rattle.columns.specs.Log.{log_checks, spelled}
 use Rattle.discovery.specs.declared.Settings.{Settings}
 use Rattle.discovery.specs.Question.{Question, question_over, numbers}
 use Rattle.discovery.specs.Calls.{settings_checks, find_checks, with_list}
+use Rattle.report.specs.declared.Arrays.{Arrays}
 use Rattle.report.specs.Print.{refusal_line, found_text}
 
 abbrev pub most_input : ℕ
@@ -87,16 +88,6 @@ unfolding checks_of_report found_text
 output_of input = printed (reply (checks_of_report input) []) (found_text (question_set input))
 
 -- ## The contract
-
--- what is lent beside the output: the two buffers of a store, and the slice for the list
-pub record Arrays : Type 0 where
-  pub events : List ℕ
-  pub ends : List ℕ
-  pub list : List ℕ
-
--- the three slices as they stand behind their references: contracts speak of it so
-abbrev pub lent_arrays : List ℕ → List ℕ → List ℕ → Arrays
-lent_arrays events ends list = record { events = events; ends = ends; list = list }
 
 -- the lent buffers as an empty store
 abbrev pub empty_store : ℕ → Arrays → Memory

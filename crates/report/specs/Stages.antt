@@ -1,6 +1,7 @@
 -- What the stages of `report` promise each other.
 -- Assumes nothing.
 use Rattle.std.specs.Prelude.{ℕ, ◌*◌, ◌≤◌, ◌≡◌, List, ◌++◌, length, Option, Some, None, Result, Ok, Err, if◌then◌else◌}
+use Rattle.std.specs.Simd.{first_chunks}
 use Rattle.base.specs.Checks.{Check, Outcome}
 use Rattle.answers.specs.declared.Refusal.{Refusal}
 use Rattle.answers.specs.Answers.{reason_number}
@@ -8,10 +9,11 @@ use Rattle.discovery.specs.declared.Found.{Found}
 use Rattle.discovery.specs.declared.Settings.{Settings}
 use Rattle.discovery.specs.Question.{numbers}
 use Rattle.discovery.specs.Calls.{find_values, with_list, find_said}
+use Rattle.report.specs.declared.Arrays.{Arrays}
 use Rattle.report.specs.declared.SettingsLine.{SettingsLine}
 use Rattle.report.specs.Print.{refusal_line, first_line}
 use Rattle.report.specs.Puts.{lines_of}
-use Rattle.report.specs.Report.{settings_laid_out, activities_set, settings_set, log_of, log_question, then_find, checks_to_read, Arrays, filled_by}
+use Rattle.report.specs.Report.{settings_laid_out, activities_set, settings_set, log_of, log_question, then_find, checks_to_read, filled_by}
 
 -- what the settings line sets
 abbrev pub settings_of : List ℕ → Option SettingsLine
@@ -40,5 +42,5 @@ Decided input = Decides (checks_to_read input) (activities_set input) (settings_
 -- what is printed of an answer, beside the list that the find wrote
 abbrev pub answer_text : Result Found Refusal → List ℕ → List ℕ
 answer_text (Ok found) list =
-    first_line found.constraints found.replayed found.traces ++ lines_of found.constraints list
+    first_line found.constraints found.replayed found.traces ++ lines_of (first_chunks numbers found.constraints list)
 answer_text (Err refusal) list = refusal_line (reason_number refusal.reason) refusal.detail

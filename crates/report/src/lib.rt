@@ -7,7 +7,7 @@ ghost use Rattle.std.specs.Prelude.{◌≡◌, true, ◌*◌, ◌≤◌, length}
 ghost use Rattle.eventlog.specs.Store.{declarable};
 ghost use Rattle.columns.specs.Log.{log_checks};
 ghost use Rattle.discovery.specs.Question.{numbers};
-ghost use Rattle.report.specs.Report.{room_lent, lent_arrays, Reports};
+ghost use Rattle.report.specs.Report.{room_lent, Reports};
 ghost use Rattle.report.specs.Puts.{Puts};
 ghost use Rattle.report.specs.Stages.{settings_of, Decides, Decided, number_listed, answer_text};
 
@@ -18,7 +18,6 @@ use text::{CONSTRAINT_LINE, FIRST_LINE, Text};
 
 pub const MOST_INPUT: usize = 65536;
 
-// What findrules lends.
 pub const LENT_EVENTS: usize = 6552;
 
 pub const LENT_ENDS: usize = 4095;
@@ -29,6 +28,14 @@ pub const LIST: usize = discovery::NUMBERS * LENT_CONSTRAINTS;
 
 // The first line, and a line for each constraint.
 pub const OUT: usize = FIRST_LINE + CONSTRAINT_LINE * LENT_CONSTRAINTS;
+
+// What findrules lends beside the output: the two buffers of a store, and the slice for the list.
+#[derive(Drop)]
+pub struct Arrays {
+    pub events: [u8; LENT_EVENTS],
+    pub ends: [u32; LENT_ENDS],
+    pub list: [u16; LIST],
+}
 
 // What the settings line sets.
 #[derive(Clone, Copy)]
@@ -56,28 +63,20 @@ fn read_and_find(
     mut store: Store,
     settings: Settings,
     log: &[u8],
-    events: &mut [u8; LENT_EVENTS],
-    ends: &mut [u32; LENT_ENDS],
-    list: &mut [u16; LIST],
+    arrays: &mut Arrays,
 ) -> Result<Found, Refusal>
     requires { (declarable store.activities ≡ true) × (store.traces ≡ 0) }
     ensures { Decides (log_checks (room_lent store.activities) log.now)
-        store.activities settings log.now
-        (lent_arrays events.old ends.old list.old) result (lent_arrays events.new ends.new list.new) }
+        store.activities settings log.now arrays.old result arrays.new }
 {
+    let Arrays { events, ends, list } = arrays;
     columns::read(&mut store, events, ends, log)?;
     discovery::find(store, events, ends, settings, list)
 }
 
 // The answer to an input. Where it lists constraints, the list holds them.
-fn decide(
-    input: &[u8],
-    events: &mut [u8; LENT_EVENTS],
-    ends: &mut [u32; LENT_ENDS],
-    list: &mut [u16; LIST],
-) -> Result<Found, Refusal>
-    ensures { Decided input.now (lent_arrays events.old ends.old list.old)
-        result (lent_arrays events.new ends.new list.new) }
+fn decide(input: &[u8], arrays: &mut Arrays) -> Result<Found, Refusal>
+    ensures { Decided input.now arrays.old result arrays.new }
 {
     if MOST_INPUT < input.len() {
         return Err(Reason::TooMuchInput.into());
@@ -90,7 +89,7 @@ fn decide(
     if !settings.in_range() {
         return Err(Reason::ThresholdOutOfRange.into());
     }
-    read_and_find(store, settings, &input[8..], events, ends, list)
+    read_and_find(store, settings, &input[8..], arrays)
 }
 
 // The text of an answer, at the front of out; how many bytes that is.
@@ -103,7 +102,8 @@ fn print(answer: Result<Found, Refusal>, list: &[u16; LIST], out: &mut [u8; OUT]
     match answer {
         Ok(found) => {
             text.put_first(found);
-            text.put_list(list, found.constraints as usize);
+            let (rows, _) = list.as_chunks();
+            text.put_list(&rows[..found.constraints as usize]);
         }
         Err(refusal) => text.put_refusal(refusal),
     }
@@ -111,17 +111,9 @@ fn print(answer: Result<Found, Refusal>, list: &[u16; LIST], out: &mut [u8; OUT]
 }
 
 // What findrules prints for its input, into out; how many bytes that is.
-// Events, ends and list are lent apart, as the library takes them, here and in the two functions above: arrays of findrules' own.
-pub fn report(
-    input: &[u8],
-    events: &mut [u8; LENT_EVENTS],
-    ends: &mut [u32; LENT_ENDS],
-    list: &mut [u16; LIST],
-    out: &mut [u8; OUT],
-) -> usize
-    ensures { Reports input.now (lent_arrays events.old ends.old list.old) out.old
-        result (lent_arrays events.new ends.new list.new) out.new }
+pub fn report(input: &[u8], arrays: &mut Arrays, out: &mut [u8; OUT]) -> usize
+    ensures { Reports input.now arrays.old out.old result arrays.new out.new }
 {
-    let answer = decide(input, events, ends, list);
-    print(answer, list, out)
+    let answer = decide(input, arrays);
+    print(answer, &arrays.list, out)
 }

@@ -1,7 +1,6 @@
 // The text that is printed, put into a lent slice.
 ghost use Rattle.std.specs.Prelude.{◌+◌, ◌*◌, ◌≤◌, ◌≡◌, length};
-ghost use Rattle.discovery.specs.Question.{numbers};
-ghost use Rattle.report.specs.Puts.{counted_at};
+ghost use Rattle.report.specs.Puts.{counted};
 
 use answers::Refusal;
 use discovery::{Found, NUMBERS};
@@ -35,17 +34,15 @@ struct Counted {
     count: u16,
 }
 
-impl Counted {
-    // The one that stands at the front of a list.
-    fn first_of(list: &[u16]) -> Counted
-        requires { numbers ≤ length list.now }
-        ensures { result ≡ counted_at 0 list.now }
-    {
+impl From<[u16; NUMBERS]> for Counted {
+    ghost from_gives = { λ row c. c ≡ counted row };
+
+    fn from([template, a, b, count]: [u16; NUMBERS]) -> Counted {
         Counted {
-            template: list[0],
-            a: list[1],
-            b: list[2],
-            count: list[3],
+            template,
+            a,
+            b,
+            count,
         }
     }
 }
@@ -116,13 +113,12 @@ impl<'a> Text<'a> {
         self.put_line_feed();
     }
 
-    pub(crate) fn put_list(&mut self, list: &[u16], count: usize)
-        requires out { self.old.at + constraint_line_size * count ≤ length self.old.out.now }
-        requires list { numbers * count ≤ length list.now }
-        ensures { Adds self.old (constraint_line_size * count) (lines_of count list.now) self.new }
+    pub(crate) fn put_list(&mut self, rows: &[[u16; NUMBERS]])
+        requires { self.old.at + constraint_line_size * length rows.now ≤ length self.old.out.now }
+        ensures { Adds self.old (constraint_line_size * length rows.now) (lines_of rows.now) self.new }
     {
-        for row in list[..NUMBERS * count].chunks_exact(NUMBERS) {
-            self.put_constraint(Counted::first_of(row));
+        for &row in rows {
+            self.put_constraint(row.into());
         }
     }
 

@@ -34,10 +34,11 @@ pub const NUMBERS: usize = 3;
 pub const MOST_NUMBERS: usize = NUMBERS * MOST_CONSTRAINTS;
 
 // Which of a state's four numbers an event's letter takes. The test for b stands first: then both are made without a jump.
+// The numbers of a constraint travel as they stand in what C lends: a step takes a and b alone, the start all three.
 fn column_of(a: u16, b: u16, activity: u16) -> usize
     ensures { result ≡ 2 - letter a b activity }
 {
-    let unless_a = if activity == b { 1 } else { 0 };
+    let unless_a = usize::from(activity == b);
     if activity == a { 2 } else { unless_a }
 }
 
@@ -57,7 +58,7 @@ fn outlook_of(table: &[u8; 1024], state: u8) -> u8
 }
 
 // Gives each of so many constraints the state that the closure makes of its place and its state, and tells of it what is then open.
-// States and told travel as two slices, since C lends them apart.
+// States and told travel as two slices, since C lends them apart. The count stands beside them: of parts up to it both lengths would be said.
 fn turn_each<F: Fn(usize, u8) -> u8>(
     table: &[u8; 1024],
     count: usize,
@@ -71,7 +72,7 @@ fn turn_each<F: Fn(usize, u8) -> u8>(
         → Computes (F.post next_state) count next
         → lent_slots states.new told.new ≡ each_of (turn_to table.now next) count 0 (lent_slots states.old told.old) }
 {
-    // By index: of elements that are written through an iterator a proof knows nothing afterwards.
+    // By index: one iterator would write through both (`zip`), and of elements so written a proof knows nothing afterwards.
     for at in 0..count {
         let state = next_state(at, states[at]);
         states[at] = state;
