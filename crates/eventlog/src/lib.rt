@@ -165,8 +165,8 @@ fn place_for(store: Store, events: &[u8], ends: &[u32], trace: &[u8]) -> Result<
     Ok(last)
 }
 
-// By index: `copy_from_slice` calls memmove, which the archive for C would then need. From a place on, and no part of the events: it would have
-// to be said as long as the trace.
+// By index: `copy_from_slice` calls memmove, which the archive for C would then need. All events and a place
+// are lent, since a part of them would have to be said to be as long as the trace.
 fn copy_in(events: &mut [u8], from: usize, trace: &[u8])
     requires { from + length trace.now ≤ length events.old }
     ensures { events.new ≡ sets events.old from trace.now }

@@ -58,7 +58,8 @@ fn outlook_of(table: &[u8; 1024], state: u8) -> u8
 }
 
 // Gives each of so many constraints the state that the closure makes of its place and its state, and tells of it what is then open.
-// States and told travel as two slices, since C lends them apart. The count stands beside them: of parts up to it both lengths would be said.
+// States and told travel as two slices, since C lends them apart, and the count beside them, since parts of the two would have to be said to
+// be equally long.
 fn turn_each<F: Fn(usize, u8) -> u8>(
     table: &[u8; 1024],
     count: usize,
