@@ -292,7 +292,7 @@ just_spelled width n bytes = (there, back)
 -- ## Reading from the left, with the value so far
 
 -- ten times the value so far, plus the digit, is the value by places
-pub one_column : (columns : List ℕ) (byte : ℕ) → scan_byte (reached columns) byte ≡ reached (columns ++ byte ∷ [])
+one_column : (columns : List ℕ) (byte : ℕ) → scan_byte (reached columns) byte ≡ reached (columns ++ byte ∷ [])
 one_column columns byte =
     rw (all_last (λ b. eqb b blank) columns byte, formed_last columns byte, value_last columns byte)
     (either (are_blanks columns)
@@ -304,12 +304,16 @@ one_column columns byte =
     (λ q. rw (p, q) (either (is_digit byte) (λ e. rw (e, and-true (leb 1 (value columns)))) (λ e. rw (e, and-false (leb 1 (value columns))))))
     (λ q. rw (p, q, and-false (is_digit byte)))))
 
+-- one column more is read by `scan_byte`
+pub scanned_more : (columns : List ℕ) (byte : ℕ) → scanned (columns ++ byte ∷ []) ≡ scan_byte (scanned columns) byte
+scanned_more columns byte = foldl-append scan_byte Blanks columns (byte ∷ [])
+
 -- so the columns, read one after the other, lead where their digits and places say
 scanned_reached : (columns : List ℕ) → scanned columns ≡ reached columns
 scanned_reached = from_last (λ columns. scanned columns ≡ reached columns) refl one_more_read
   where
     one_more_read : (xs : List ℕ) (b : ℕ) → scanned xs ≡ reached xs → scanned (xs ++ b ∷ []) ≡ reached (xs ++ b ∷ [])
-    one_more_read xs b h = foldl-append scan_byte Blanks xs (b ∷ []) ∙ ap (λ (s : Scan). scan_byte s b) h ∙ one_column xs b
+    one_more_read xs b h = scanned_more xs b ∙ ap (λ (s : Scan). scan_byte s b) h ∙ one_column xs b
 
 -- what begins with columns that are neither blanks nor a field is no field
 stays_broken : (front rest : List ℕ) → are_blanks front ≡ false → well_formed front ≡ false → well_formed (front ++ rest) ≡ false
@@ -320,7 +324,7 @@ stays_broken front (b ∷ bs) p q =
     (rw (formed_last front b, p, q) (and-false (is_digit b))))
 
 -- so after k columns of an accepted field the value so far is that of the digits among them
-pub reached_value : (field : List ℕ) (k : ℕ) → well_formed field ≡ true → so_far (reached (take k field)) ≡ value (take k field)
+reached_value : (field : List ℕ) (k : ℕ) → well_formed field ≡ true → so_far (reached (take k field)) ≡ value (take k field)
 reached_value field k formed =
     let front = take k field in
     either (are_blanks front)
@@ -337,7 +341,7 @@ reached_field field =
     (λ p. either (well_formed field) (λ q. rw (p, q)) (λ q. rw (p, q)))
 
 -- the value of eight columns leaves room for one digit more in 32 bits
-pub reached_fits : (columns : List ℕ) → length columns ≤ 8 → so_far (reached columns) * 10 + 9 ≤ 4294967295
+reached_fits : (columns : List ℕ) → length columns ≤ 8 → so_far (reached columns) * 10 + 9 ≤ 4294967295
 reached_fits columns h =
     either (are_blanks columns)
     (λ p. rw p (omega arith))
@@ -347,6 +351,9 @@ reached_fits columns h =
     let most : 10 ^ length columns ≤ 10 ^ 8 = pow-le-pow_right (omega arith) h in
     rw (p, q) (omega (arith, value_bound columns q)))
     (λ q. rw (p, q) (omega arith)))
+
+pub scanned_fits : (columns : List ℕ) → length columns ≤ 8 → so_far (scanned columns) * 10 + 9 ≤ 4294967295
+scanned_fits columns h = rw (scanned_reached columns) (reached_fits columns h)
 
 pub running_value : RunningValue
 running_value =
@@ -361,8 +368,8 @@ running_value =
     digits_read field k formed = ap so_far (scanned_reached (take k field)) ∙ reached_value field k formed
 
 -- what the code reads is what the field holds
-pub reached_is_field : (bytes : List ℕ) → length bytes ≤ widest → finish (reached bytes) ≡ field_of bytes
-reached_is_field bytes h = rw (le-leb (length bytes) 9 h) (reached_field bytes)
+pub scanned_is_field : (bytes : List ℕ) → length bytes ≤ widest → finish (scanned bytes) ≡ field_of bytes
+scanned_is_field bytes h = rw (le-leb (length bytes) 9 h) (running_value.as_before bytes)
 
 pub too_wide : (bytes : List ℕ) → widest < length bytes → field_of bytes ≡ None
 too_wide bytes h = rw (lt-leb (length bytes) 9 h)

@@ -15,7 +15,7 @@ scan_byte (Digits n) byte =
     if leb 1 n && is_digit byte then Digits (n * 10 + (byte - 48)) else Broken
 scan_byte Broken byte = Broken
 
--- columns read from the left, one after the other
+-- columns read from the left, one after the other: what the code's loop, `scan_columns`, promises to hand back
 abbrev pub scanned : List ℕ → Scan
 scanned columns = foldl scan_byte Blanks columns
 
@@ -33,7 +33,7 @@ finish Broken = None
 abbrev pub are_blanks : List ℕ → Bool
 are_blanks columns = list_all (λ byte. eqb byte blank) columns
 
--- how far a field is read after some columns, by the digits among them and their places; the invariant of the loop of `read_field`
+-- how far a field is read after some columns, by the digits among them and their places
 abbrev pub reached : List ℕ → Scan
 reached columns =
     if are_blanks columns then Blanks else if well_formed columns then Digits (value columns) else Broken

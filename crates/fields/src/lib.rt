@@ -2,8 +2,8 @@
 #![tactic(auto)]
 
 ghost use Rattle.std.specs.Prelude.{◌+◌, ◌*◌, ◌≤◌, ◌≡◌, length, replicate};
-ghost use Rattle.fields.specs.Field.{blank, field_of, spell};
-ghost use Rattle.fields.specs.Scan.{scan_byte, finish, so_far};
+ghost use Rattle.fields.specs.Field.{blank, widest, field_of, spell};
+ghost use Rattle.fields.specs.Scan.{scan_byte, scanned, finish, so_far};
 ghost use Rattle.fields.specs.Columns.{column_of};
 
 pub const BLANK: u8 = b' ';
@@ -45,18 +45,27 @@ impl Scan {
     }
 }
 
-// The number in a field of at most nine columns, read from the left: the value so far is that of the digits read, 0 over blanks.
+// Columns read from the left, one after the other, with the value so far; nine are read at most, so that it fits 32 bits.
+fn scan_columns(columns: &[u8]) -> Scan
+    requires { length columns.now ≤ widest }
+    ensures { result ≡ scanned columns.now }
+{
+    let mut scan = Scan::Blanks;
+    for &byte in columns {
+        scan = scan.next(byte);
+    }
+    scan
+}
+
+// The number in a field of at most nine columns.
+#[tactic(auto, using(crate::proofs::Fields::scanned_is_field))]
 pub fn read_field(bytes: &[u8]) -> Option<u32>
     ensures { result ≡ field_of bytes.now }
 {
     if 9 < bytes.len() {
         return None;
     }
-    let mut scan = Scan::Blanks;
-    for &byte in bytes {
-        scan = scan.next(byte);
-    }
-    scan.finish()
+    scan_columns(bytes).finish()
 }
 
 // A column before a field's last: a digit, or blank where nothing is left of the number.
