@@ -13,8 +13,8 @@ ghost use Rattle.watcher.specs.Calls.{watched, Starts, Steps};
 ghost use Rattle.capi.specs.Numbers.{number_of, InNumbers, Replied, Returned};
 
 use answers::Refusal;
-use discovery::Settings;
 use eventlog::Store;
+use pruning::Settings;
 use values::Values;
 use watcher::{MOST_CONSTRAINTS, Watcher};
 

@@ -1,4 +1,3 @@
 pub mod Meaning
 pub mod Constraints
-pub mod Automata
 pub mod Walk

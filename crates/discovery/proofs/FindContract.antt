@@ -19,10 +19,12 @@ use Rattle.answers.specs.declared.Reason.TheVariants.{ListTooShort}
 use Rattle.answers.specs.declared.Refusal.{Refusal}
 use Rattle.std.specs.Prelude.{Result, Ok, Err}
 use Rattle.discovery.specs.declared.list.Tally.{Tally}
-use Rattle.discovery.specs.declared.Settings.{Settings}
+use Rattle.pruning.specs.declared.Settings.{Settings}
 use Rattle.declare.specs.Constraints.{constraints}
-use Rattle.discovery.specs.Question.{Question, asked, trace_count, is_listed, listed, replayed, numbers}
-use Rattle.discovery.specs.Calls.{threshold_in_range, Finds, find_checks, checks_of_find, find_values, with_list}
+use Rattle.pruning.specs.Question.{Question, asked, trace_count, is_listed}
+use Rattle.discovery.specs.Listing.{listed, replayed, numbers}
+use Rattle.pruning.specs.Question.{threshold_in_range}
+use Rattle.discovery.specs.Calls.{Finds, find_checks, checks_of_find, find_values, with_list}
 use Rattle.discovery.specs.Passes.{Passes, none_yet, fit_of}
 
 -- ## Passing over all constraints

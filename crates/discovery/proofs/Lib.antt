@@ -1,4 +1,3 @@
 pub mod FindContract
 pub mod Listing
 pub mod Orderless
-pub mod Counting

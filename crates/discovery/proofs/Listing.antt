@@ -11,9 +11,10 @@ use Rattle.declare.specs.declared.constraints.Constraint.{Constraint}
 use Rattle.declare.specs.Constraints.{constraints, Exactly}
 use Rattle.declare.proofs.constraints.Members.{filter_exactly, constraints_number}
 use Rattle.eventlog.specs.Store.{most_activities}
-use Rattle.discovery.specs.Passes.{AtMostAll}
-use Rattle.discovery.specs.Question.{Question, survives, is_listed, listed, replayed, numbers, layout}
-use Rattle.discovery.proofs.classes.Pruning.{listed_survives}
+use Rattle.declare.specs.Walk.{AtMostAll}
+use Rattle.pruning.specs.Question.{Question, survives, is_listed}
+use Rattle.discovery.specs.Listing.{listed, replayed, numbers, layout}
+use Rattle.pruning.proofs.Pruning.{listed_survives}
 
 -- the list has exactly the constraints whose count meets the threshold
 pub listed_exactly : (q : Question) → Exactly q.activities (is_listed q) (listed q)
@@ -39,7 +40,3 @@ pub layout_length : (q : Question) (cs : List Constraint) → length (layout q c
 unfolding layout
 layout_length q [] = refl
 layout_length q (c ∷ cs) = omega (arith, layout_length q cs)
-
--- all constraints over 32 activities are few
-pub few_numbers : (n k : ℕ) → n ≤ most_activities → AtMostAll n k → k ≤ 14336
-few_numbers n k few all = let fewer : 14 * n ≤ 448 = omega arith in omega (arith, all, mul-le-mul fewer few)

@@ -15,8 +15,9 @@ use Rattle.declare.specs.Meaning.{fulfilled}
 use Rattle.declare.specs.declared.constraints.Constraint.{Constraint}
 use Rattle.std.specs.List.{filter}
 use Rattle.base.specs.Lists.{non_empty, count, flat_map, equal_lists}
-use Rattle.discovery.specs.declared.Settings.{Settings}
-use Rattle.discovery.specs.Question.{Question, question_over, trace_count, meets_threshold, fulfilments, class_of, support, always, survives, is_listed, layout}
+use Rattle.pruning.specs.declared.Settings.{Settings}
+use Rattle.pruning.specs.Question.{Question, question_over, trace_count, meets_threshold, fulfilments, class_of, support, always, survives, is_listed}
+use Rattle.discovery.specs.Listing.{layout}
 use Rattle.discovery.specs.Claims.{Alike}
 use Rattle.base.proofs.Lists.{equal_lists_same, equal_lists_refl, count_cons, count_filter, count_none, permuted_length, permuted_count}
 

@@ -1,19 +1,16 @@
 -- Find: what it says and leaves, as definitions of what it was given. The contract cites these.
 -- Assumes nothing.
-use Rattle.std.specs.Prelude.{ℕ, ◌*◌, Bool, not, List, [], ◌∷◌, ◌++◌, eqb, ltb, length, Result}
+use Rattle.std.specs.Prelude.{ℕ, ◌*◌, not, List, [], ◌∷◌, ◌++◌, eqb, ltb, length, Result}
 use Rattle.std.proofs.lemmas.List.Edits.{sets}
-use Rattle.base.specs.Logic.{in_range}
 use Rattle.base.specs.Checks.{Check, ◌refuses◌with◌, Reply, Outcome}
 use Rattle.answers.specs.Answers.{said_by}
 use Rattle.answers.specs.declared.Refusal.{Refusal}
 use Rattle.eventlog.specs.Store.{Memory}
 use Rattle.eventlog.specs.Calls.{unsound}
 use Rattle.discovery.specs.declared.Found.{Found}
-use Rattle.discovery.specs.declared.Settings.{Settings}
-use Rattle.discovery.specs.Question.{Question, asked, trace_count, listed, replayed, numbers, layout}
-
-abbrev pub threshold_in_range : Settings → Bool
-threshold_in_range settings = in_range 1 settings.threshold 1000
+use Rattle.pruning.specs.declared.Settings.{Settings}
+use Rattle.pruning.specs.Question.{Question, asked, trace_count, threshold_in_range}
+use Rattle.discovery.specs.Listing.{listed, replayed, numbers, layout}
 
 -- threshold not 1 to 1000
 abbrev pub settings_checks : Settings → List Check

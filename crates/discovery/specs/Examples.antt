@@ -7,8 +7,9 @@ use Rattle.declare.specs.declared.Verdict.{Verdict}
 use Rattle.declare.specs.declared.Verdict.TheVariants.{Fulfilled, NotActivated, Violated}
 use Rattle.declare.specs.Meaning.{meanings, holds, activated, fulfilled, verdict}
 use Rattle.declare.specs.Constraints.{constraints}
-use Rattle.discovery.specs.declared.Settings.{Settings}
-use Rattle.discovery.specs.Question.{Question, question_over, meets, fulfilments, support, listed, replayed, layout}
+use Rattle.pruning.specs.declared.Settings.{Settings}
+use Rattle.pruning.specs.Question.{Question, question_over, meets, fulfilments, support}
+use Rattle.discovery.specs.Listing.{listed, replayed, layout}
 use Rattle.discovery.specs.Calls.{find_checks, find_values}
 
 abbrev by : ℕ → Settings

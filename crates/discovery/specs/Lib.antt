@@ -1,5 +1,5 @@
 pub mod Calls
 pub mod Claims
-pub mod Question
+pub mod Listing
 pub mod Examples
 pub mod Passes

@@ -1,6 +1,11 @@
 // What a template settles, kept while the constraints are of that template.
 ghost use Rattle.std.specs.Prelude.{◌≡◌, ℕ};
 ghost use Rattle.std.specs.Coded.{Coded-set};
+ghost use Rattle.pruning.specs.Question.{class_of};
+ghost use Rattle.replay.specs.Replays.{sealed};
+
+use pruning::Class;
+use replay::SealedAutomaton;
 
 // What is made of a template's number.
 pub(crate) trait OfTemplate: Copy {
@@ -36,5 +41,21 @@ impl<T: OfTemplate> AtHand<T> {
             return self;
         }
         AtHand::new(template)
+    }
+}
+
+impl OfTemplate for Class {
+    ghost of_template = { class_of };
+
+    fn of(template: u8) -> Class {
+        Class::of(template)
+    }
+}
+
+impl OfTemplate for SealedAutomaton {
+    ghost of_template = { sealed };
+
+    fn of(template: u8) -> SealedAutomaton {
+        SealedAutomaton::of(template)
     }
 }

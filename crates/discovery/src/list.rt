@@ -2,15 +2,17 @@
 ghost use Rattle.std.specs.Prelude.{◌*◌, ◌≡◌, [], ◌∷◌, length, set};
 ghost use Rattle.std.proofs.lemmas.List.Edits.{sets};
 ghost use Rattle.declare.specs.Constraints.{constraints};
-ghost use Rattle.discovery.specs.Question.{listed, numbers};
-ghost use Rattle.discovery.specs.Passes.{asked_by, Kept, Passes, TallyFits, none_yet, fit_of};
+ghost use Rattle.discovery.specs.Listing.{listed, numbers};
+ghost use Rattle.pruning.specs.Query.{asked_by};
+ghost use Rattle.replay.specs.Replays.{Kept};
+ghost use Rattle.discovery.specs.Passes.{Passes, TallyFits, none_yet, fit_of};
 
 use crate::NUMBERS;
 use crate::at_hand::AtHand;
-use crate::classes::Class;
-use crate::query::Query;
 use answers::{Reason, Refusal};
-use declare::{Automaton, Constraint, Constraints};
+use declare::{Constraint, Constraints};
+use pruning::{Class, Query};
+use replay::{SealedAutomaton, replay};
 
 // How many constraints so far are listed, and how many were replayed.
 #[derive(Clone, Copy, Debug, PartialEq, Eq)]
@@ -40,66 +42,64 @@ fn write(list: &mut [u16], listed: u32, c: Constraint, count: u16)
     put(list, at + 3, count);
 }
 
-impl<'a> Query<'a> {
-    // Passes over one constraint that pruning keeps: it is replayed, and written where its count meets the threshold.
-    fn consider(self, c: Constraint, automaton: Automaton, tally: Tally, list: &mut [u16]) -> Tally
-        requires kept { Kept (asked_by self) automaton c }
-        requires tally_fits { TallyFits self.sound.store.activities tally }
-        ensures { Passes (asked_by self.entry) (c ∷ []) tally list.old result list.new }
-    {
-        let replay = self.replay(c, automaton, tally.replayed);
-        let tally = Tally {
-            replayed: replay.replayed,
-            ..tally
-        };
-        if !self.meets(replay.fulfilled) {
-            return tally;
-        }
-        write(list, tally.listed, c, replay.fulfilled as u16);
-        Tally {
-            listed: tally.listed + 1,
-            ..tally
-        }
+// Passes over one constraint that pruning keeps: it is replayed, and written where its count meets the threshold.
+fn consider(query: Query, c: Constraint, automaton: SealedAutomaton, tally: Tally, list: &mut [u16]) -> Tally
+    requires kept { Kept (asked_by query) automaton c }
+    requires tally_fits { TallyFits query.sound.store.activities tally }
+    ensures { Passes (asked_by query.entry) (c ∷ []) tally list.old result list.new }
+{
+    let replayed = replay(query, c, automaton, tally.replayed);
+    let tally = Tally {
+        replayed: replayed.replayed,
+        ..tally
+    };
+    if !query.meets(replayed.fulfilled) {
+        return tally;
     }
+    write(list, tally.listed, c, replayed.fulfilled as u16);
+    Tally {
+        listed: tally.listed + 1,
+        ..tally
+    }
+}
 
-    // Passes over all constraints in their order: counts those listed and replayed, and writes the list as far as the slice goes. What
-    // pruning drops is not replayed.
-    #[tactic(auto, using(crate::proofs::Counting::few_activities))]
-    pub(crate) fn pass(self, list: &mut [u16]) -> Tally
-        ensures { Passes (asked_by self.entry) (constraints self.entry.sound.store.activities) none_yet list.old result list.new }
-    {
-        let mut tally = Tally {
-            listed: 0,
-            replayed: 0,
-        };
-        // The automaton is at first that of no template, number 0: with an Option each step would ask whether there is one.
-        let mut class = AtHand::<Class>::new(1);
-        let mut automaton = AtHand::<Automaton>::new(0);
-        for c in Constraints::over(self.sound.store.activities as u8) {
-            class = class.on_to(c.template);
-            if self.survives(c, class.made) {
-                automaton = automaton.on_to(c.template);
-                tally = self.consider(c, automaton.made, tally, list);
-            }
+// Passes over all constraints in their order: counts those listed and replayed, and writes the list as far as the slice goes. What pruning
+// drops is not replayed.
+#[tactic(auto, using(pruning::proofs::Counting::few_activities))]
+pub(crate) fn pass(query: Query, list: &mut [u16]) -> Tally
+    ensures { Passes (asked_by query.entry) (constraints query.entry.sound.store.activities) none_yet list.old result list.new }
+{
+    let mut tally = Tally {
+        listed: 0,
+        replayed: 0,
+    };
+    // The automaton is at first that of no template, number 0: with an Option each step would ask whether there is one.
+    let mut class = AtHand::<Class>::new(1);
+    let mut automaton = AtHand::<SealedAutomaton>::new(0);
+    for c in Constraints::over(query.sound.store.activities as u8) {
+        class = class.on_to(c.template);
+        if query.survives(c, class.made) {
+            automaton = automaton.on_to(c.template);
+            tally = consider(query, c, automaton.made, tally, list);
         }
-        tally
     }
+    tally
+}
 
-    // Looks whether the list fits, and leaves the slice as it was. Where there is room for all constraints, nothing is replayed for it.
-    #[tactic(auto, using(crate::proofs::Counting::few_activities))]
-    pub(crate) fn look(self, list: &mut [u16]) -> Result<(), Refusal>
-        ensures fit { result ≡ fit_of (length (listed (asked_by self.entry))) list.old }
-        ensures list_unchanged { list.new ≡ list.old }
-    {
-        let all = declare::constraint_count(self.sound.store.activities as u8);
-        if all as usize <= list.len() / NUMBERS {
-            return Ok(());
-        }
-        let needed = self.pass(&mut list[0..0]);
-        let listed = needed.listed as usize;
-        if list.len() < NUMBERS * listed {
-            return Err(Reason::ListTooShort.with(listed));
-        }
-        Ok(())
+// Looks whether the list fits, and leaves the slice as it was. Where there is room for all constraints, nothing is replayed for it.
+#[tactic(auto, using(pruning::proofs::Counting::few_activities))]
+pub(crate) fn look(query: Query, list: &mut [u16]) -> Result<(), Refusal>
+    ensures fit { result ≡ fit_of (length (listed (asked_by query.entry))) list.old }
+    ensures list_unchanged { list.new ≡ list.old }
+{
+    let all = declare::constraint_count(query.sound.store.activities as u8);
+    if all as usize <= list.len() / NUMBERS {
+        return Ok(());
     }
+    let needed = pass(query, &mut list[0..0]);
+    let listed = needed.listed as usize;
+    if list.len() < NUMBERS * listed {
+        return Err(Reason::ListTooShort.with(listed));
+    }
+    Ok(())
 }

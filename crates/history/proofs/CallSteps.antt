@@ -19,8 +19,8 @@ use Rattle.eventlog.proofs.Traces.{Grown, grown_one}
 use Rattle.eventlog.proofs.Adding.{add_passed}
 use Rattle.columns.specs.Log.{log_checks, spelled}
 use Rattle.columns.proofs.Laws.{grown_read}
-use Rattle.discovery.specs.declared.Settings.{Settings}
-use Rattle.discovery.specs.Question.{Question, question_over, asked}
+use Rattle.pruning.specs.declared.Settings.{Settings}
+use Rattle.pruning.specs.Question.{Question, question_over, asked}
 use Rattle.discovery.specs.Calls.{find_checks, find_values, with_list}
 use Rattle.history.specs.Ledger.{Call, open_for, add, read, find, Shown, Ledger, first_ledger, room_beside, question, next_ledger, shows, with_all}
 use Rattle.history.specs.Histories.{Called, Fresh, Keeps}

@@ -10,8 +10,9 @@ use Rattle.base.specs.Checks.{gives, reply}
 use Rattle.base.proofs.Checks.{given-new, given_values, when_passed_same}
 use Rattle.eventlog.specs.declared.Space.{Space}
 use Rattle.declare.specs.declared.constraints.Constraint.{Constraint}
-use Rattle.discovery.specs.declared.Settings.{Settings}
-use Rattle.discovery.specs.Question.{Question, trace_count, listed, replayed, numbers, layout}
+use Rattle.pruning.specs.declared.Settings.{Settings}
+use Rattle.pruning.specs.Question.{Question, trace_count}
+use Rattle.discovery.specs.Listing.{listed, replayed, numbers, layout}
 use Rattle.discovery.specs.Calls.{checks_for}
 use Rattle.discovery.proofs.FindContract.{find_passed}
 use Rattle.discovery.proofs.Listing.{listed_exactly, replayed_exactly, replayed_at_most, layout_length}

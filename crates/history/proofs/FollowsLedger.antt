@@ -11,8 +11,9 @@ use Rattle.base.specs.Checks.{gives}
 use Rattle.eventlog.specs.declared.Space.{Space}
 use Rattle.eventlog.specs.Store.{Memory, space}
 use Rattle.declare.specs.declared.constraints.Constraint.{Constraint}
-use Rattle.discovery.specs.declared.Settings.{Settings}
-use Rattle.discovery.specs.Question.{trace_count, numbers, layout}
+use Rattle.pruning.specs.declared.Settings.{Settings}
+use Rattle.pruning.specs.Question.{trace_count}
+use Rattle.discovery.specs.Listing.{numbers, layout}
 use Rattle.declare.specs.Constraints.{Exactly}
 use Rattle.declare.proofs.constraints.Members.{exactly_one}
 use Rattle.discovery.proofs.Orderless.{without_empty, question_over_alike, trace_count_alike, is_listed_alike, survives_alike, layout_alike}

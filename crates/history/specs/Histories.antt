@@ -11,8 +11,9 @@ use Rattle.eventlog.specs.declared.Store.{Store}
 use Rattle.eventlog.specs.Store.{Memory, with_store, sound, kept, space, room}
 use Rattle.eventlog.specs.Calls.{Opens, Adds}
 use Rattle.columns.specs.Calls.{Reads}
-use Rattle.discovery.specs.declared.Settings.{Settings}
-use Rattle.discovery.specs.Question.{Question, trace_count, is_listed, survives, numbers, layout}
+use Rattle.pruning.specs.declared.Settings.{Settings}
+use Rattle.pruning.specs.Question.{Question, trace_count, is_listed, survives}
+use Rattle.discovery.specs.Listing.{numbers, layout}
 use Rattle.discovery.specs.Claims.{Alike}
 use Rattle.discovery.specs.Calls.{checks_for, Finds}
 use Rattle.history.specs.Ledger.{Call, open_for, add, read, find, Shown, Ledger, first_ledger, room_beside, question, next_ledger, shows}

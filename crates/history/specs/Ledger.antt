@@ -7,8 +7,8 @@ use Rattle.eventlog.specs.declared.Room.{Room}
 use Rattle.eventlog.specs.Store.{total}
 use Rattle.eventlog.specs.Calls.{open_checks, add_checks}
 use Rattle.columns.specs.Log.{log_checks, spelled}
-use Rattle.discovery.specs.declared.Settings.{Settings}
-use Rattle.discovery.specs.Question.{Question, question_over}
+use Rattle.pruning.specs.declared.Settings.{Settings}
+use Rattle.pruning.specs.Question.{Question, question_over}
 use Rattle.discovery.specs.Calls.{find_checks, find_values, with_list}
 
 -- A call, with what it brings: a step count, a trace, a log's bytes, or settings and what stands in the slice lent for the list.

@@ -10,8 +10,9 @@ ghost use Rattle.history.specs.Ledger.{only, open_for, add as add_of, read as re
 ghost use Rattle.history.specs.Histories.{Called};
 
 use answers::Refusal;
-use discovery::{Found, Settings};
+use discovery::Found;
 use eventlog::Store;
+use pruning::Settings;
 
 pub fn open(n: u32) -> Result<Store, Refusal>
     ensures { (m : Memory) → Called m (open_for n) (only (open_said result)) (with_store (opened m.store result) m) }

@@ -18,8 +18,9 @@ use Rattle.eventlog.specs.Store.{declarable}
 use Rattle.eventlog.specs.Calls.{open_checks, Opens}
 use Rattle.columns.specs.Log.{log_checks}
 use Rattle.discovery.specs.declared.Found.{Found}
-use Rattle.discovery.specs.declared.Settings.{Settings}
-use Rattle.discovery.specs.Calls.{threshold_in_range, settings_checks}
+use Rattle.pruning.specs.declared.Settings.{Settings}
+use Rattle.pruning.specs.Question.{threshold_in_range}
+use Rattle.discovery.specs.Calls.{settings_checks}
 use Rattle.report.specs.declared.Arrays.{Arrays}
 use Rattle.report.specs.Report.{most_input, settings_set, log_of, room_lent, checks_to_read}
 use Rattle.report.specs.Stages.{settings_of, Decides, Decided}

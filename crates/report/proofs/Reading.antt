@@ -23,8 +23,9 @@ use Rattle.eventlog.specs.Calls.{with_traces}
 use Rattle.columns.specs.Calls.{Reads}
 use Rattle.columns.proofs.Laws.{grown_read, spelled_non_empty}
 use Rattle.discovery.specs.declared.Found.{Found}
-use Rattle.discovery.specs.declared.Settings.{Settings}
-use Rattle.discovery.specs.Question.{Question, asked, listed, numbers, layout}
+use Rattle.pruning.specs.declared.Settings.{Settings}
+use Rattle.pruning.specs.Question.{Question, asked}
+use Rattle.discovery.specs.Listing.{listed, numbers, layout}
 use Rattle.discovery.specs.Calls.{find_checks, find_values, with_list, find_said, Finds}
 use Rattle.discovery.proofs.FindContract.{find_passed}
 use Rattle.report.specs.declared.Arrays.{Arrays}

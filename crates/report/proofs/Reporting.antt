@@ -16,8 +16,9 @@ use Rattle.base.proofs.Outcomes.{accepted_passes, accepted_gives, accepted_leave
 use Rattle.declare.specs.declared.constraints.Constraint.{Constraint}
 use Rattle.answers.specs.declared.Refusal.{Refusal}
 use Rattle.discovery.specs.declared.Found.{Found}
-use Rattle.discovery.specs.declared.Settings.{Settings}
-use Rattle.discovery.specs.Question.{Question, trace_count, fulfilments, listed, replayed, numbers, layout}
+use Rattle.pruning.specs.declared.Settings.{Settings}
+use Rattle.pruning.specs.Question.{Question, trace_count, fulfilments}
+use Rattle.discovery.specs.Listing.{listed, replayed, numbers, layout}
 use Rattle.discovery.specs.Calls.{find_values, with_list}
 use Rattle.discovery.proofs.Listing.{layout_length}
 use Rattle.report.specs.declared.Arrays.{Arrays}

@@ -13,7 +13,7 @@ use Rattle.std.specs.Prelude.{if◌then◌else◌, Option, Some, None}
 use Rattle.base.proofs.Bools.{and_left, either}
 use Rattle.base.proofs.Lists.{take_drop}
 use Rattle.fields.specs.Field.{line_feed, well_formed, value, widest, field_of}
-use Rattle.discovery.specs.declared.Settings.{Settings}
+use Rattle.pruning.specs.declared.Settings.{Settings}
 use Rattle.report.specs.declared.SettingsLine.{SettingsLine}
 use Rattle.report.specs.Report.{settings_laid_out, activities_set, settings_set}
 use Rattle.report.specs.Stages.{settings_of}

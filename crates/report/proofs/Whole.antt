@@ -19,10 +19,12 @@ use Rattle.eventlog.proofs.Laws.{kept_length, sound_facts}
 use Rattle.columns.specs.Log.{Line, Before, nothing_read, with_line, lines_within, lines, log_checks_from, log_checks, spelled}
 use Rattle.eventlog.specs.Calls.{with_traces}
 use Rattle.declare.specs.declared.constraints.Constraint.{Constraint}
-use Rattle.discovery.specs.declared.Settings.{Settings}
-use Rattle.discovery.specs.Question.{Question, fulfilments, listed, replayed}
+use Rattle.pruning.specs.declared.Settings.{Settings}
+use Rattle.pruning.specs.Question.{Question, fulfilments}
+use Rattle.discovery.specs.Listing.{listed, replayed}
 use Rattle.discovery.specs.Calls.{find_checks}
-use Rattle.discovery.proofs.Listing.{listed_exactly, replayed_at_most, listed_within_replayed, few_numbers}
+use Rattle.discovery.proofs.Listing.{listed_exactly, replayed_at_most, listed_within_replayed}
+use Rattle.declare.proofs.constraints.Walk.{few_numbers}
 use Rattle.report.specs.declared.Arrays.{Arrays}
 use Rattle.report.specs.Print.{number_width, detail_width}
 use Rattle.report.specs.Report.{most_input, lent_space, lent_list, log_of, activities_set, settings_set}

@@ -5,7 +5,8 @@ use Rattle.declare.specs.Meaning.{meanings, holds, activated, fulfilled}
 use Rattle.fields.specs.Field.{spell}
 use Rattle.columns.specs.Log.{lines, log_checks, spelled}
 use Rattle.declare.specs.Constraints.{constraints}
-use Rattle.discovery.specs.Question.{fulfilments, support, listed, replayed}
+use Rattle.pruning.specs.Question.{fulfilments, support}
+use Rattle.discovery.specs.Listing.{listed, replayed}
 use Rattle.report.specs.Print.{refusal_line, first_line, constraint_line, found_text}
 use Rattle.report.specs.Report.{settings_laid_out, activities_set, settings_set, lent_list, checks_to_read, checks_of_report, output_of}
 

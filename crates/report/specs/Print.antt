@@ -3,7 +3,8 @@
 use Rattle.std.specs.Prelude.{ℕ, ◌+◌, ◌*◌, List, [], ◌∷◌, ◌++◌, leb, length, replicate, if◌then◌else◌}
 use Rattle.fields.specs.Field.{blank, line_feed, spell}
 use Rattle.base.specs.Lists.{flat_map}
-use Rattle.discovery.specs.Question.{Question, trace_count, fulfilments, listed, replayed}
+use Rattle.pruning.specs.Question.{Question, trace_count, fulfilments}
+use Rattle.discovery.specs.Listing.{listed, replayed}
 
 -- ## A refusal prints its number in columns 1 to 2 and the detail in 3 to 8
 

@@ -9,8 +9,9 @@ use Rattle.eventlog.specs.Store.{Memory, memory}
 use Rattle.eventlog.specs.Calls.{open_checks, empty, with_traces}
 use Rattle.fields.specs.Field.{line_feed, well_formed, value}
 use Rattle.columns.specs.Log.{log_checks, spelled}
-use Rattle.discovery.specs.declared.Settings.{Settings}
-use Rattle.discovery.specs.Question.{Question, question_over, numbers}
+use Rattle.pruning.specs.declared.Settings.{Settings}
+use Rattle.pruning.specs.Question.{Question, question_over}
+use Rattle.discovery.specs.Listing.{numbers}
 use Rattle.discovery.specs.Calls.{settings_checks, find_checks, with_list}
 use Rattle.report.specs.declared.Arrays.{Arrays}
 use Rattle.report.specs.Print.{refusal_line, found_text}

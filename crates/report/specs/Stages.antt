@@ -6,8 +6,8 @@ use Rattle.base.specs.Checks.{Check, Outcome}
 use Rattle.answers.specs.declared.Refusal.{Refusal}
 use Rattle.answers.specs.Answers.{reason_number}
 use Rattle.discovery.specs.declared.Found.{Found}
-use Rattle.discovery.specs.declared.Settings.{Settings}
-use Rattle.discovery.specs.Question.{numbers}
+use Rattle.pruning.specs.declared.Settings.{Settings}
+use Rattle.discovery.specs.Listing.{numbers}
 use Rattle.discovery.specs.Calls.{find_values, with_list, find_said}
 use Rattle.report.specs.declared.Arrays.{Arrays}
 use Rattle.report.specs.declared.SettingsLine.{SettingsLine}

@@ -4,7 +4,8 @@ use Rattle.std.specs.Prelude.{ℕ, ◌^◌, ◌<◌, ◌≡◌, length}
 use mathlib.Core.List.{List, [], Mem}
 use Rattle.base.specs.Checks.{gives, refused, reply}
 use Rattle.declare.specs.declared.constraints.Constraint.{Constraint}
-use Rattle.discovery.specs.Question.{Question, trace_count, fulfilments, listed, replayed}
+use Rattle.pruning.specs.Question.{Question, trace_count, fulfilments}
+use Rattle.discovery.specs.Listing.{listed, replayed}
 use Rattle.report.specs.Print.{number_width, detail_width, first_width, template_width, activity_width, count_width}
 use Rattle.report.specs.Report.{question_set, checks_of_report}
 

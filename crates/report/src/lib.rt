@@ -6,14 +6,15 @@ mod text;
 ghost use Rattle.std.specs.Prelude.{◌≡◌, true, ◌*◌, ◌≤◌, length};
 ghost use Rattle.eventlog.specs.Store.{declarable};
 ghost use Rattle.columns.specs.Log.{log_checks};
-ghost use Rattle.discovery.specs.Question.{numbers};
+ghost use Rattle.discovery.specs.Listing.{numbers};
 ghost use Rattle.report.specs.Report.{room_lent, Reports};
 ghost use Rattle.report.specs.Puts.{Puts};
 ghost use Rattle.report.specs.Stages.{settings_of, Decides, Decided, number_listed, answer_text};
 
 use answers::{Reason, Refusal};
-use discovery::{Found, Settings};
+use discovery::Found;
 use eventlog::Store;
+use pruning::Settings;
 use text::{CONSTRAINT_LINE, FIRST_LINE, Text};
 
 pub const MOST_INPUT: usize = 65536;

@@ -10,9 +10,9 @@ use lib.ListN.{get_or}
 use Rattle.std.specs.List.{list_all}
 use Rattle.base.specs.Lists.{range}
 use Rattle.base.proofs.Lists.{all_range}
-use Rattle.declare.specs.Automata.{next_of, letter}
-use Rattle.declare.proofs.Agreement.{letter_small}
-use Rattle.declare.proofs.Shifting.{at_every_state}
+use Rattle.automata.specs.Automata.{next_of, letter}
+use Rattle.automata.proofs.Agreement.{letter_small}
+use Rattle.automata.proofs.Shifting.{at_every_state}
 use Rattle.watcher.specs.Table.{outlook_in, table, place}
 
 abbrev tells : Bool → ℕ → ℕ → Bool

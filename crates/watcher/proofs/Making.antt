@@ -19,8 +19,8 @@ use Rattle.base.proofs.Lists.{map_map, all_map, all_range, same_on_range, range_
 use Rattle.base.proofs.Checks.{NoneFail, none_fail}
 use Rattle.declare.specs.declared.constraints.Constraint.{Constraint}
 use Rattle.declare.specs.Constraints.{pairs, Over}
-use Rattle.declare.proofs.Shifting.{follow_small}
-use Rattle.declare.proofs.Following.{follow_append}
+use Rattle.automata.proofs.Shifting.{follow_small}
+use Rattle.automata.proofs.Following.{follow_append}
 use Rattle.eventlog.specs.Store.{declarable}
 use Rattle.watcher.specs.Calls.{constraint_at, given, proper, all_whole, Slots, slots_after, start_checks}
 use Rattle.watcher.specs.Table.{table, place, state_number, state_after, outlook}

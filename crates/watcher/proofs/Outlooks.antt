@@ -15,11 +15,11 @@ use Rattle.base.specs.Lists.{range}
 use Rattle.base.proofs.Bools.{equal_same, and_left, and_right, and_both, implied, fails_too, either, at_both, clash, not_itself}
 use Rattle.base.proofs.Lists.{all_range, all_append}
 use Rattle.declare.specs.declared.constraints.Constraint.{Constraint}
-use Rattle.declare.specs.Automata.{next_of, verdict_of, follow, letter}
+use Rattle.automata.specs.Automata.{next_of, verdict_of, follow, letter}
 use Rattle.declare.specs.Constraints.{Over}
-use Rattle.declare.proofs.Agreement.{letter_small}
-use Rattle.declare.proofs.Shifting.{at_every_state, next_small, follow_small}
-use Rattle.declare.proofs.Following.{follow_append, follow_holds_constraint}
+use Rattle.automata.proofs.Agreement.{letter_small}
+use Rattle.automata.proofs.Shifting.{at_every_state, next_small, follow_small}
+use Rattle.automata.proofs.Following.{follow_append, follow_holds_constraint}
 use Rattle.eventlog.specs.Store.{all_below}
 use Rattle.watcher.specs.Outlook.{holds_on, Every, Some, State}
 use Rattle.watcher.specs.Table.{holds_in, second, reaches, outlook_in, state_number, outlook}

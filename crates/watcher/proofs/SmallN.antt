@@ -13,7 +13,7 @@ use Rattle.base.proofs.Bools.{either}
 use Rattle.base.proofs.Lists.{all_weaker}
 use Rattle.declare.specs.declared.constraints.Constraint.{Constraint}
 use Rattle.declare.specs.Constraints.{constraint, Over}
-use Rattle.declare.proofs.Shifting.{at_every_state, follow_small}
+use Rattle.automata.proofs.Shifting.{at_every_state, follow_small}
 use Rattle.eventlog.specs.Store.{all_below}
 use Rattle.watcher.specs.Outlook.{State}
 use Rattle.watcher.specs.Table.{outlook_in, state_number, outlook}

@@ -5,7 +5,7 @@ use Rattle.std.specs.Prelude.{ℕ, zero, suc, ◌+◌, ◌-◌, ◌*◌, Bool, t
 use Rattle.std.specs.Bool.{beq}
 use Rattle.base.specs.Lists.{range, flat_map}
 use Rattle.declare.specs.declared.constraints.Constraint.{Constraint}
-use Rattle.declare.specs.Automata.{next_of, verdict_of, follow, letter, stands}
+use Rattle.automata.specs.Automata.{next_of, verdict_of, follow, letter, stands}
 
 -- whether the template holds on a trace that ends in this state
 abbrev pub holds_in : ℕ → ℕ → Bool

@@ -7,7 +7,7 @@ mod table;
 ghost use Rattle.std.specs.Prelude.{◌≡◌, ℕ, [], ◌∷◌, ◌+◌, ◌-◌, ◌*◌, ◌/◌, ◌<◌, ◌≤◌, eqb, length, get_or};
 ghost use Rattle.std.specs.List.{list_all};
 ghost use Rattle.base.specs.Checks.{reply};
-ghost use Rattle.declare.specs.Automata.{letter};
+ghost use Rattle.automata.specs.Automata.{letter};
 ghost use Rattle.declare.specs.Constraints.{constraint, pairs};
 ghost use Rattle.answers.specs.Answers.{done_said};
 ghost use Rattle.watcher.specs.Calls.{lent_slots, watched, given, proper, all_whole, start_checks, start_said, started, Starts, Steps};

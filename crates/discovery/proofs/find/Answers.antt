@@ -3,7 +3,8 @@ use Rattle.std.proofs.Common.{length, sym, ap, subst, ◌∙◌, ◌≡◌, rule
 use Rattle.declare.specs.Constraints.{constraints}
 use Rattle.eventlog.specs.Store.{lent}
 use Rattle.eventlog.specs.SoundStore.{memory_of}
-use Rattle.discovery.specs.Question.{asked, trace_count, listed}
+use Rattle.pruning.specs.Question.{asked, trace_count}
+use Rattle.discovery.specs.Listing.{listed}
 use Rattle.discovery.specs.Passes.{fit_of, Passes, none_yet}
 use Rattle.discovery.proofs.FindContract.{finds_listed}
 use Rattle.discovery.proofs.find.Goals as goal

@@ -17,14 +17,16 @@ use Rattle.declare.specs.Meaning.{fulfilled}
 use Rattle.declare.specs.Constraints.{constraints, Over}
 use Rattle.declare.proofs.constraints.Members.{constraints_number, constraints_over}
 use Rattle.eventlog.specs.Store.{Memory, sound, kept}
-use Rattle.discovery.specs.declared.Settings.{Settings}
+use Rattle.pruning.specs.declared.Settings.{Settings}
 use Rattle.discovery.specs.declared.list.Tally.{Tally}
-use Rattle.discovery.specs.Question.{Question, asked, meets_threshold, fulfilments, survives, is_listed, numbers, layout}
-use Rattle.discovery.specs.declared.replay.Replayed.{Replayed}
-use Rattle.discovery.specs.Passes.{Replays, Passes, TallyFits, none_yet}
-use Rattle.discovery.proofs.classes.Pruning.{pruned_not_listed}
+use Rattle.pruning.specs.Question.{Question, asked, meets_threshold, fulfilments, survives, is_listed}
+use Rattle.discovery.specs.Listing.{numbers, layout}
+use Rattle.replay.specs.declared.Replayed.{Replayed}
+use Rattle.replay.specs.Replays.{Replays}
+use Rattle.discovery.specs.Passes.{Passes, TallyFits, none_yet}
+use Rattle.pruning.proofs.Pruning.{pruned_not_listed}
 use Rattle.discovery.proofs.Listing.{layout_length}
-use Rattle.discovery.proofs.Counting.{few_kept}
+use Rattle.pruning.proofs.Counting.{few_kept}
 
 layout_append : (q : Question) (cs ds : List Constraint) → layout q (cs ++ ds) ≡ layout q cs ++ layout q ds
 unfolding layout

@@ -1,5 +1,5 @@
 use Rattle.std.proofs.Common.{◌/◌, ◌≤◌, refl, ap, ◌∙◌, length, take, arith}
-use Rattle.discovery.specs.Question.{numbers}
+use Rattle.discovery.specs.Listing.{numbers}
 use Rattle.report.proofs.Puts.{add_then, put_same, first_rows}
 use Rattle.report.proofs.print.Goals.{in-Ok, in-Err}
 use Rattle.report.proofs.print.Goals as goal

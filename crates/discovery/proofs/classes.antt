@@ -1,2 +1,0 @@
-pub mod Occurrence
-pub mod Pruning

@@ -1,0 +1,8 @@
+-- The constraints so far are passed, and the iterator has left the others.
+use Rattle.declare.specs.Walk.{left}
+use Rattle.pruning.specs.Query.{asked_by}
+use Rattle.discovery.proofs.list.Passing.{Passing}
+use Rattle.discovery.proofs.list.pass.Given as goal
+
+abbrev pub invariant-loop-c : goal.invariant-loop-c
+invariant-loop-c l = Passing (asked_by l.query) l.initial.list l.yielded (left l.c-iterator) l.tally l.list

@@ -1,8 +1,0 @@
--- The constraints so far are passed, and the iterator has left the others.
-use Rattle.declare.specs.Walk.{left}
-use Rattle.discovery.specs.Passes.{asked_by}
-use Rattle.discovery.proofs.list.Passing.{Passing}
-use Rattle.discovery.proofs.query.Query.pass.Given as goal
-
-abbrev pub invariant-loop-c : goal.invariant-loop-c
-invariant-loop-c l = Passing (asked_by l.self) l.initial.list l.yielded (left l.c-iterator) l.tally l.list

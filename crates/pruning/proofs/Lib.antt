@@ -1,0 +1,3 @@
+pub mod Counting
+pub mod Occurrence
+pub mod Pruning

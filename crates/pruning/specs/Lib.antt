@@ -1,0 +1,2 @@
+pub mod Query
+pub mod Question

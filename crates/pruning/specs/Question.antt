@@ -1,0 +1,86 @@
+-- A question to the finder: the constraints' counts, which of them meet the threshold, and which pruning keeps.
+-- Assumes nothing.
+use Rattle.std.specs.Prelude.{ℕ, ◌*◌, Bool, true, false, ◌&&◌, ◌||◌, List, eqb, leb, length, if◌then◌else◌}
+use Rattle.base.specs.Logic.{in_range}
+use Rattle.declare.specs.Meaning.{occurs, fulfilled}
+use Rattle.eventlog.specs.Store.{Memory, kept}
+use Rattle.pruning.specs.declared.Settings.{Settings}
+use Rattle.pruning.specs.declared.Class.{Class}
+use Rattle.pruning.specs.declared.Class.TheVariants.{WithA, All, Either, Both}
+use Rattle.declare.specs.declared.constraints.Constraint.{Constraint}
+use Rattle.std.specs.List.{filter}
+use Rattle.base.specs.Lists.{non_empty, count}
+
+-- A question to the finder: how many activities are declared, the traces, and the settings.
+pub record Question : Type 0 where
+  pub activities : ℕ
+  pub traces : List (List ℕ)
+  pub settings : Settings
+
+-- R, all counts and the pruning numbers are taken over runs of length 1 or more: of the kept traces a question has those
+abbrev pub question_over : ℕ → List (List ℕ) → Settings → Question
+question_over activities kept settings = record { activities = activities; traces = filter non_empty kept; settings = settings }
+
+-- what find asks of a memory
+abbrev pub asked : Memory → Settings → Question
+asked m settings = question_over m.store.activities (kept m) settings
+
+-- how many traces a question has (document 01: R)
+abbrev pub trace_count : Question → ℕ
+trace_count q = length q.traces
+
+abbrev pub threshold_in_range : Settings → Bool
+threshold_in_range settings = in_range 1 settings.threshold 1000
+
+-- a number of traces meets the threshold over all of them: 1000 × number ≥ threshold × all, nothing rounded
+abbrev pub meets : ℕ → ℕ → ℕ → Bool
+meets threshold all number = leb (threshold * all) (1000 * number)
+
+abbrev pub meets_threshold : Question → ℕ → Bool
+meets_threshold q number = meets q.settings.threshold (trace_count q) number
+
+-- the traces fulfilled for a constraint
+unfoldable pub fulfilments : List (List ℕ) → Constraint → ℕ
+fulfilments traces c = count (fulfilled c.template c.a c.b) traces
+
+-- the class of pruning, by the template's number; a number outside 1 to 24 is in the last one too
+abbrev pub class_of : ℕ → Class
+class_of template =
+    if in_range 1 template 3 || in_range 7 template 8 then WithA
+    else if in_range 4 template 6 then All
+    else if in_range 9 template 10 || eqb template 12 || in_range 23 template 24 then Either
+    else Both
+
+-- a trace counts for a class: it has a, whatever it is, it has a or b, it has both
+abbrev pub counts_for : Class → ℕ → ℕ → List ℕ → Bool
+counts_for WithA a b trace = occurs a trace
+counts_for All a b trace = true
+counts_for Either a b trace = occurs a trace || occurs b trace
+counts_for Both a b trace = occurs a trace && occurs b trace
+
+-- the traces that count for a class, by a constraint's activities
+abbrev pub class_support : Class → List (List ℕ) → Constraint → ℕ
+class_support class traces c = count (counts_for class c.a c.b) traces
+
+-- the traces of a constraint's class
+unfoldable pub support : List (List ℕ) → Constraint → ℕ
+support traces c = class_support (class_of c.template) traces c
+
+-- a class that pruning keeps always, whatever its support
+abbrev pub always : Class → Bool
+always WithA = false
+always All = true
+always Either = false
+always Both = false
+
+-- pruning keeps a constraint of this class: 4 to 6 always, the others when the traces of their class meet the threshold
+abbrev pub survives_in : Class → Question → Constraint → Bool
+survives_in class q c = always class || meets_threshold q (class_support class q.traces c)
+
+-- the class is the one of its template
+abbrev pub survives : Question → Constraint → Bool
+survives q c = always (class_of c.template) || meets_threshold q (support q.traces c)
+
+-- the constraint's count meets the threshold
+abbrev pub is_listed : Question → Constraint → Bool
+is_listed q c = meets_threshold q (fulfilments q.traces c)

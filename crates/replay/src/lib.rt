@@ -1,0 +1,63 @@
+// Replay of a constraint over the store's traces. Who replays a constraint that pruning may have dropped has no way to a replayer but this
+// crate's `replay`, which requires that it is kept: an automaton is handed out sealed.
+#![tactic(auto)]
+
+ghost use Rattle.std.specs.Prelude.{◌≡◌, true};
+ghost use Rattle.base.specs.Lists.{non_empty};
+ghost use Rattle.pruning.specs.Query.{asked_by};
+ghost use Rattle.replay.specs.Replays.{sealed, Kept, Replays, replays_fulfilled};
+ghost use Rattle.declare.specs.Walk.{AtMostAll};
+
+use automata::{Automaton, Moves};
+use declare::{Constraint, Verdict};
+use pruning::Query;
+
+// A template's automaton, with which nothing can be done but to hand it to `replay`.
+#[derive(Clone, Copy, Debug, PartialEq, Eq)]
+pub struct SealedAutomaton {
+    automaton: Automaton,
+}
+
+impl SealedAutomaton {
+    pub fn of(template: u8) -> SealedAutomaton
+        ensures { result ≡ sealed template }
+    {
+        SealedAutomaton {
+            automaton: Automaton::of(template),
+        }
+    }
+}
+
+// A constraint's fulfilled traces, and how many constraints have been replayed, this one counted.
+#[derive(Clone, Copy, Debug, PartialEq, Eq)]
+pub struct Replayed {
+    pub fulfilled: u32,
+    pub replayed: u32,
+}
+
+// Whether a trace is fulfilled, by a constraint's moves. An empty trace is handed to no replayer.
+fn is_fulfilled(moves: &Moves, trace: &[u8]) -> bool
+    requires { non_empty trace.now ≡ true }
+    ensures { result ≡ replays_fulfilled moves.now trace.now }
+{
+    moves.verdict(trace) == Verdict::Fulfilled
+}
+
+// Replays a constraint over the store, by its template's automaton. Only what pruning keeps may be replayed: the first clause. The moves are
+// made once for all its traces.
+pub fn replay(query: Query, c: Constraint, automaton: SealedAutomaton, replayed: u32) -> Replayed
+    requires kept { Kept (asked_by query) automaton c }
+    requires at_most_all { AtMostAll query.sound.store.activities replayed }
+    ensures { Replays (asked_by query.entry) c replayed result }
+{
+    let moves = automaton.automaton.moves(c.a, c.b);
+    let traces = query.sound.traces();
+    // Added up, and not filtered and counted: a sum makes no jump, and where traces are short that shows.
+    let fulfilled = traces
+        .map(|trace| u32::from(!trace.is_empty() && is_fulfilled(&moves, trace)))
+        .sum();
+    Replayed {
+        fulfilled,
+        replayed: replayed + 1,
+    }
+}
