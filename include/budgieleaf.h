@@ -17,11 +17,13 @@
  *   answer   3 numbers that the call writes, refused or not: see each call.
  * A length counts elements and not bytes. What is lent must be there in full, at its type's alignment, for the whole
  * call, and what a call writes must not overlap anything else that it is lent. No pointer may be null, also where its
- * length is 0. Any numbers and bytes may stand in what is lent: a record or a buffer that was damaged is refused with 1.
+ * length is 0. Any numbers and bytes may stand in what is lent. Where record and buffers are no sound store (below,
+ * budgieleaf_is_sound), add, read and find answer 1; damage that leaves a sound store is not noticed.
  *
  * WHAT IS RETURNED
  * 0 where the call is accepted, else the number of the refusal; answer[0] is then its detail. The other numbers of
- * `answer` are 0 unless said below. A refused call leaves the store, both buffers and the list as they were.
+ * `answer` are 0 unless said below. A refused call leaves all else that is lent as it was: the store, both buffers and
+ * the list, and of the watcher its record and both arrays.
  *
  * REFUSALS, in README's words: a run is a trace, a step an activity, a rule a constraint; the step buffer is `events`,
  * the ends slice `ends`.
@@ -142,8 +144,8 @@ uint32_t budgieleaf_find(const uint32_t store[2], const uint8_t *events, size_t 
  * instructions. The time does not grow with the length of the run.
  *
  * What is lent must be there as for the calls above. Pass the record, the arrays and the constraints on as the call
- * before left them. Given others, a step still ends, with 0, 1, 6 or 7, and writes nothing but the 3 numbers and the 512
- * bytes, but what it then tells means nothing.
+ * before left them. Given others, a step still ends, with 0, 1, 6 or 7: refused it writes nothing, and accepted nothing
+ * but the 3 numbers and the 512 bytes, but what it then tells means nothing.
  */
 
 /*
@@ -159,8 +161,9 @@ uint32_t budgieleaf_watch_start(uint32_t n, uint32_t watcher[3], const uint16_t 
 /*
  * One activity more. Accepted (0): told has the states over the activities accepted so far, this one among them.
  * Refusals, the first that holds: 6 where the activity is not below N; 7 where 4096 were taken already. A refused step
- * changes nothing that is lent, so watching goes on as if it had not been tried. 1 where the record cannot be a
- * watcher's, or is not that of these constraints.
+ * changes nothing that is lent, so watching goes on as if it had not been tried. 1, and first of all, where the record
+ * has sizes that no start and steps leave (N above 32, more than 256 constraints, more than 4096 activities taken), or
+ * another number of constraints than is lent. Other constraints, of the same number, are not noticed.
  */
 uint32_t budgieleaf_watch_step(uint32_t watcher[3], const uint16_t *constraints, size_t constraints_length,
                                uint8_t states[256], uint8_t told[256], uint32_t activity);

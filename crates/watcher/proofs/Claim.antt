@@ -1,6 +1,6 @@
 -- After each step what is told of every constraint is its state by the definition.
 -- Assumes nothing.
-use Prim.Native.Nat.{ℕ}
+use Prim.Native.Nat.{ℕ, suc}
 use native.Mathlib.Omega.{arith}
 use mathlib.Core.Path.{◌≡◌, refl, sym, ap, subst}
 use mathlib.Core.Bool.{true}
@@ -9,7 +9,7 @@ use lib.ListN.{length, drop, length-map}
 use lib.Seq.{drop_at}
 use Rattle.std.specs.List.{list_all}
 use Rattle.base.proofs.Bools.{and_left, and_right}
-use Rattle.base.specs.Checks.{Reply}
+use Rattle.base.specs.Checks.{Reply, refused}
 use Rattle.base.proofs.Checks.{none_fail_reply, both_left}
 use Rattle.base.proofs.Outcomes.{one_outcome, refused_keeps, accepted_passes, accepted_leaves}
 use Rattle.declare.specs.declared.constraints.Constraint.{Constraint}
@@ -97,6 +97,7 @@ module _ (n : ℕ) (numbers : List ℕ) (before : Slots) where
 pub states_told : StatesTold
 states_told =
     record {
+      refused_start = λ n numbers there left number detail starts. refused_keeps starts refl;
       at_first =
           λ s. (
             made_tells s.n s.numbers s.before.slots [] s.left (start_made s),
@@ -106,6 +107,22 @@ states_told =
       one_is = λ n c trace over within. (outlook n c trace, right n c over trace within);
       no_other = exclude;
     }
+
+-- ## Of any memory
+
+-- a refused step changes nothing
+pub refused_step_keeps :
+    {numbers : List ℕ} {m m' : Watched} {activity number detail : ℕ} → Steps numbers m activity (refused number detail) m' → m' ≡ m
+refused_step_keeps steps = steps.ends.2
+
+-- a watching has so many steps as are tried
+pub watching_length :
+    (numbers : List ℕ) (m : Watched) (activities : List ℕ) (seen : List Seen) → Watching numbers m activities seen →
+    length seen ≡ length activities
+watching_length numbers m [] [] w = refl
+watching_length numbers m [] (s ∷ seen) w = absurd w
+watching_length numbers m (activity ∷ more) [] w = absurd w
+watching_length numbers m (activity ∷ more) (s ∷ seen) w = ap suc (watching_length numbers s.left more seen w.1)
 
 -- ## Nothing is left to the program: a start in any memory, and a step in one that a start and steps made, has one outcome
 

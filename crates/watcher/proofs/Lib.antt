@@ -7,5 +7,6 @@ pub mod Making
 pub mod Starting
 pub mod Stepping
 pub mod Claim
+pub mod Existence
 pub mod SmallN
 pub mod Sample

@@ -7,7 +7,7 @@ use mathlib.Core.Bool.{true, ◌&&◌}
 use mathlib.Core.List.{List, [], ◌∷◌, ◌++◌, map}
 use borrow.Author.Tests.{eqb-true, ltb-true, ltb-false, not-false}
 use lib.Dec.{eqb, ltb}
-use lib.ListN.{length, get_or, drop, length-map, get_or-append}
+use lib.ListN.{length, get_or, drop, length-append, length-map, get_or-append}
 use lib.Seq.{drop_at}
 use Rattle.std.specs.List.{list_all}
 use Rattle.base.specs.Lists.{range}
@@ -96,6 +96,13 @@ module _ (n : ℕ) (numbers : List ℕ) (started : reply (start_checks n numbers
   pub all_proper : list_all (proper n) (given numbers) ≡ true
   all_proper = and_right (eqb (length numbers % 3) 0) (list_all (proper n) (given numbers)) well
 
+  -- whatever was lent, each constraint has a place in what is left
+  left_room : (f : Constraint → ℕ) (l : List ℕ) → length numbers / 3 ≤ length (map f (given numbers) ++ drop (length (given numbers)) l)
+  left_room f l =
+      let both = length-append (map f (given numbers)) (drop (length (given numbers)) l) in
+      let made = length-map (given numbers) f in
+      let counted = given_length numbers in omega arith
+
   pub each_over : (i : ℕ) → i < length numbers / 3 → Over n (constraint_at numbers i)
   unfolding given
   each_over i h =
@@ -144,9 +151,7 @@ module _ (n : ℕ) (numbers : List ℕ) (started : reply (start_checks n numbers
         states-fit told_fit
         ∙ sym (after_placed before [])
 
-  module _ (before : Slots) (trace : List ℕ) (activity : ℕ)
-      (states-fit : length numbers / 3 ≤ length (slots_after n numbers before trace).states)
-      (told_fit : length numbers / 3 ≤ length (slots_after n numbers before trace).told) where
+  module _ (before : Slots) (trace : List ℕ) (activity : ℕ) where
     next_state : (i : ℕ) → i < count numbers → (state : ℕ) → state ≡ state_at trace i
         → get_or table_here (place (constraint_at numbers i).a (constraint_at numbers i).b state activity) 0 ≡ state_at (trace ++ (activity ∷ [])) i
     unfolding count state_at table_here
@@ -171,7 +176,7 @@ module _ (n : ℕ) (numbers : List ℕ) (started : reply (start_checks n numbers
         ap (λ k. put table_here i k l)
         (next_state i h (get_or l.states i 0)
         (same ∙ ap (λ (l : Slots). get_or l.states i 0) known ∙ placed_at numbers (state_at trace) before.states i h)))
-        states-fit told_fit
+        (left_room (λ c. state_after c trace) before.states) (left_room (λ c. outlook n c trace) before.told)
         ∙ ap₂ (λ x y. record { states = map (state_at (trace ++ (activity ∷ []))) (range 0 (count numbers)) ++ x; told = map tell (range 0 (count numbers)) ++ y })
         (ap (λ (l : Slots). drop (count numbers) l.states) known ∙ placed_past numbers (state_at trace) before.states)
         (ap (λ (l : Slots). drop (count numbers) l.told) known ∙ placed_past numbers (λ i. get_or table_here (4 * state_at trace i + 3) 0) before.told)

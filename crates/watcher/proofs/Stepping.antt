@@ -8,17 +8,14 @@ use mathlib.Core.List.{List, [], ◌∷◌, ◌++◌}
 use borrow.Author.Tests.{eqb-true, leb-true, leb-false, ltb-true, not-false, le-leb, eq-eqb}
 use lib.Dec.{eqb, leb, ltb}
 use lib.ListN.{length, length-append}
-use Rattle.base.specs.Checks.{gives, refused, reply}
+use Rattle.base.specs.Checks.{Reply, gives, refused, reply}
 use Rattle.base.proofs.Bools.{and_left, and_right, and_both}
 use Rattle.base.proofs.Lists.{all_append}
 use Rattle.base.proofs.Checks.{NoneFail, none_fail, refused_each}
 use Rattle.base.proofs.Outcomes.{outcome_refused, outcome_accepted}
-use Rattle.std.specs.Prelude.{Result, Err}
-use Rattle.answers.specs.declared.Refusal.{Refusal}
-use Rattle.answers.specs.Answers.{done_said}
 use Rattle.eventlog.specs.Store.{most_activities, longest_trace}
 use Rattle.watcher.specs.declared.Watcher.{Watcher}
-use Rattle.watcher.specs.Calls.{most_constraints, Slots, Watched, watcher_after, watched_after, step_checks, Made, ends_so, Steps}
+use Rattle.watcher.specs.Calls.{most_constraints, Slots, Watched, watcher_after, watched_after, step_checks, Made, EndsSo, Steps}
 use Rattle.watcher.specs.Table.{table}
 use Rattle.watcher.specs.Loops.{each_of, turn_by, usable, checks_of_step}
 use Rattle.watcher.proofs.Making.{not_many, none_cut, few_activities, stepping}
@@ -90,33 +87,28 @@ module _ (n : ℕ) (numbers : List ℕ) (before : Slots) (trace : List ℕ) (m :
 
 -- ## Both answers
 
-abbrev Told : ℕ → ℕ → Type 0
-Told number detail = ends_so (refused number detail) ≡ true
-
 -- a step that is refused leaves all as it was
 pub steps_refused :
-    {numbers : List ℕ} {m : Watched} {activity : ℕ} {answer : Result (Unit {0}) Refusal} {refusal : Refusal} →
-    done_said answer ≡ reply (checks_of_step m.watcher (length numbers) activity) [] → answer ≡ Err refusal →
-    Steps numbers m activity (done_said answer) m
+    {numbers : List ℕ} {m : Watched} {activity : ℕ} {said : Reply} {number detail : ℕ} →
+    said ≡ reply (checks_of_step m.watcher (length numbers) activity) [] → said ≡ refused number detail → Steps numbers m activity said m
 steps_refused {numbers} {m} {activity} said e =
     record {
       ends =
           rw e
-          (refused_each Told (checks_of_step m.watcher (length numbers) activity) [] _ _
-          (refl, λ usable-it. (refl, λ declared. (refl, λ short. tt))) (sym (rw e at said)));
-      made = λ n before trace made. outcome_refused (said ∙ made_reply n numbers before trace m made activity) (ap done_said e);
+          (refused_each (λ number detail. EndsSo m (refused number detail) m) (checks_of_step m.watcher (length numbers) activity) [] _ _
+          ((refl, refl, refl), λ usable_it. ((refl, refl, refl), λ declared. ((refl, refl, refl), λ short. tt))) (sym (rw e at said)));
+      made = λ n before trace made. outcome_refused (said ∙ made_reply n numbers before trace m made activity) e;
     }
 
 -- the record after a step that is taken
-abbrev one_taken : Watcher → Watcher
+abbrev pub one_taken : Watcher → Watcher
 one_taken w = record { activities = w.activities; constraints = w.constraints; taken = w.taken + 1 }
 
 pub steps_taken :
     {numbers : List ℕ} {m : Watched} {activity : ℕ} {l : Slots} → gives [] ≡ reply (checks_of_step m.watcher (length numbers) activity) [] →
-    length m.slots.states ≡ 256 → length m.slots.told ≡ 256 →
     l ≡ each_of (turn_by (table (eqb m.watcher.activities 1)) numbers activity) m.watcher.constraints 0 m.slots →
     Steps numbers m activity (gives []) (record { watcher = one_taken m.watcher; slots = l })
-steps_taken {numbers} {m} {activity} {l} said states-fit told_fit turned =
+steps_taken {numbers} {m} {activity} {l} said turned =
     record {
       ends = refl;
       made = λ n before trace made. outcome_accepted (said ∙ made_reply n numbers before trace m made activity) refl (next_is n before trace made);
@@ -127,13 +119,10 @@ steps_taken {numbers} {m} {activity} {l} said states-fit told_fit turned =
         (n : ℕ) (before : Slots) (trace : List ℕ) → Made n numbers before trace m →
         record { watcher = one_taken m.watcher; slots = l } ≡ watched_after n numbers before (trace ++ (activity ∷ []))
     next_is n before trace made =
-        let many = not_many n numbers made.accepted in
-        let states-long = sym (ap (λ (m : Watched). length m.slots.states) made.is) ∙ states-fit in
-        let told-long = sym (ap (λ (m : Watched). length m.slots.told) made.is) ∙ told_fit in
         let taken : length trace + 1 ≡ length (trace ++ (activity ∷ [])) = sym (length-append trace (activity ∷ [])) in
         ap₂ (λ (w : Watcher) (l : Slots). record { watcher = w; slots = l })
         (ap one_taken (same_watcher n numbers before trace m made)
         ∙ ap (λ k. record { activities = n; constraints = length numbers / 3; taken = k }) taken)
         (turned
         ∙ ap (λ (m : Watched). each_of (turn_by (table (eqb m.watcher.activities 1)) numbers activity) m.watcher.constraints 0 m.slots) made.is
-        ∙ stepping n numbers made.accepted before trace activity (omega arith) (omega arith))
+        ∙ stepping n numbers made.accepted before trace activity)

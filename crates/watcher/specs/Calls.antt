@@ -109,13 +109,13 @@ pub record Made (n : ℕ) (numbers : List ℕ) (before : Slots) (trace : List �
   pub short : length trace ≤ longest_trace
   pub is : m ≡ watched_after n numbers before trace
 
--- ends with 1, 6, 7 or any states
-abbrev pub ends_so : Reply → Bool
-ends_so (gives values) = true
-ends_so (refused number detail) = eqb number 1 || eqb number 6 || eqb number 7
+-- a refused step has number 1, 6 or 7 and detail 0, and leaves all as it was; an accepted one gives no values, and may leave any states
+abbrev pub EndsSo : Watched → Reply → Watched → Type 0
+EndsSo m (gives values) m' = values ≡ []
+EndsSo m (refused number detail) m' = ((eqb number 1 || eqb number 6 || eqb number 7) ≡ true) × (detail ≡ 0) × (m' ≡ m)
 
 -- `step`. Of what no start and steps made nothing is promised but how it ends.
 pub record Steps (numbers : List ℕ) (m : Watched) (activity : ℕ) (said : Reply) (m' : Watched) : Type 0 where
-  pub ends : ends_so said ≡ true
+  pub ends : EndsSo m said m'
   pub made : (n : ℕ) (before : Slots) (trace : List ℕ) → Made n numbers before trace m
       → Outcome (step_checks n (length trace) activity) [] (watched_after n numbers before (trace ++ (activity ∷ []))) m said m'

@@ -1,18 +1,32 @@
--- Start's and step's refusals, computed from the definitions.
+-- Start's and step's refusals, how a step ends, and what is told of one constraint, from the definitions.
 -- Assumes nothing.
-use Rattle.std.specs.Prelude.{◌≡◌, refl, [], ◌∷◌, replicate}
+use Rattle.std.specs.Prelude.{ℕ, ◌≡◌, refl, List, [], ◌∷◌, length, replicate}
+use Rattle.std.proofs.Common.{ap}
+use Rattle.std.proofs.lemmas.Bool.{false≢true, true≢false}
+use Rattle.std.proofs.Math.Nat.{suc-ne-zero}
 use Rattle.base.specs.Checks.{gives, refused, reply}
-use Rattle.watcher.specs.Calls.{given, start_checks, step_checks, taking}
+use Rattle.declare.specs.Constraints.{constraint}
+use Rattle.declare.specs.Meaning.{holds}
+use Rattle.watcher.specs.Calls.{given, Watched, start_checks, step_checks, taking, EndsSo}
+use Rattle.watcher.specs.Watching.{Tells}
+
+-- 1 to 32 activities are declared, or it is 2
+how_many_declared :
+    (reply (start_checks 0 []) [] ≡ refused 2 0)
+    × (reply (start_checks 1 []) [] ≡ gives [])
+    × (reply (start_checks 32 []) [] ≡ gives [])
+    × (reply (start_checks 33 []) [] ≡ refused 2 0)
+unfolding given
+how_many_declared = (refl, refl, refl, refl)
 
 -- 2, 14, 13: no activity declared; more than 256 constraints, which are no constraints either; one that is cut short
 order :
     (reply (start_checks 0 (replicate 769 0)) [] ≡ refused 2 0)
-    × (reply (start_checks 33 []) [] ≡ refused 2 0)
     × (reply (start_checks 1 (replicate 769 0)) [] ≡ refused 14 0)
     × (reply (start_checks 1 (replicate 768 0)) [] ≡ refused 13 0)
     × (reply (start_checks 1 (1 ∷ 0 ∷ 0 ∷ 1 ∷ [])) [] ≡ refused 13 0)
 unfolding given
-order = (refl, refl, refl, refl, refl)
+order = (refl, refl, refl, refl)
 
 -- 13: no template 1 to 24, an undeclared step, a wrong pair; and what is accepted
 proper_ones :
@@ -23,9 +37,8 @@ proper_ones :
     × (reply (start_checks 2 (9 ∷ 1 ∷ 0 ∷ [])) [] ≡ refused 13 0)
     × (reply (start_checks 2 (24 ∷ 1 ∷ 1 ∷ [])) [] ≡ refused 13 0)
     × (reply (start_checks 2 (8 ∷ 1 ∷ 1 ∷ 9 ∷ 0 ∷ 1 ∷ 24 ∷ 1 ∷ 0 ∷ [])) [] ≡ gives [])
-    × (reply (start_checks 32 []) [] ≡ gives [])
 unfolding given
-proper_ones = (refl, refl, refl, refl, refl, refl, refl, refl)
+proper_ones = (refl, refl, refl, refl, refl, refl, refl)
 
 -- the 4096th step is taken, the one after it is not; an undeclared one is 6 even then; what is refused is not among those accepted
 steps :
@@ -35,3 +48,46 @@ steps :
     × (taking 2 (0 ∷ []) 1 ≡ 0 ∷ 1 ∷ [])
     × (taking 2 (0 ∷ []) 2 ≡ 0 ∷ [])
 steps = (refl, refl, refl, refl, refl)
+
+-- how a step ends, whatever memory there was: an accepted one gives no values, and leaves any; a refused one is 1, 6 or 7, its detail 0,
+-- and leaves no other
+ends : (m m' : Watched)
+    → EndsSo m (gives []) m'
+    × EndsSo m (refused 1 0) m
+    × EndsSo m (refused 6 0) m
+    × EndsSo m (refused 7 0) m
+    × (EndsSo m (gives (0 ∷ [])) m' → ⊥)
+    × (EndsSo m (refused 2 0) m → ⊥)
+    × (EndsSo m (refused 6 1) m → ⊥)
+    × ((m' ≡ m → ⊥) → EndsSo m (refused 6 0) m' → ⊥)
+ends m m' = (
+  refl,
+  (refl, refl, refl),
+  (refl, refl, refl),
+  (refl, refl, refl),
+  λ h. suc-ne-zero 0 (ap length h),
+  λ h. false≢true h.0,
+  λ h. suc-ne-zero 0 h.1,
+  λ other h. other h.2,
+)
+
+-- of every constraint one of the four states is told: before the first step it does not hold that 0 occurs, and then it may
+abbrev existence_told : List ℕ → Type 0
+existence_told told = Tells 2 (constraint 1 0 0 ∷ []) [] told
+
+told :
+    (existence_told [] → ⊥)
+    × (existence_told (0 ∷ []) → ⊥)
+    × (existence_told (1 ∷ []) → ⊥)
+    × existence_told (2 ∷ [])
+    × (existence_told (3 ∷ []) → ⊥)
+    × (existence_told (4 ∷ []) → ⊥)
+unfolding holds
+told = (
+  λ h. h,
+  λ h. false≢true h.0.0,
+  λ h. false≢true h.0.0,
+  ((refl, (0 ∷ [], refl, refl)), tt),
+  λ h. true≢false (h.0.1 (0 ∷ []) refl),
+  λ h. h.0,
+)

@@ -6,7 +6,7 @@ use Rattle.declare.specs.declared.constraints.Constraint.{Constraint}
 use Rattle.declare.specs.Constraints.{Over}
 use Rattle.eventlog.specs.Store.{all_below}
 use Rattle.watcher.specs.Outlook.{State}
-use Rattle.watcher.specs.Calls.{given, Slots, Watched, watcher_after, Starts, step_checks, taking, Steps}
+use Rattle.watcher.specs.Calls.{given, Slots, Watched, watcher_after, start_checks, Starts, step_checks, taking, Steps}
 
 -- what is told is the state of each constraint, after the trace
 abbrev pub Tells : ℕ → List Constraint → List ℕ → List ℕ → Type 0
@@ -58,8 +58,18 @@ pub record Started : Type 0 where
   pub left : Watched
   pub starts : Starts n numbers before (gives values) left
 
+-- There are such: a start wherever its checks pass, whatever was there before, and after it, as from any memory, a watching of every list
+-- of steps.
+pub record WatchingsExist : Type 0 where
+  pub start : (n : ℕ) (numbers : List ℕ) (before : Watched) → reply (start_checks n numbers) [] ≡ gives []
+      → (s : Started) × (s.n ≡ n) × (s.numbers ≡ numbers) × (s.before ≡ before)
+  pub watching : (numbers : List ℕ) (m : Watched) (activities : List ℕ) → (seen : List Seen) × Watching numbers m activities seen
+
 -- One claim about all lists of steps: what is told of each constraint is its state.
 pub record StatesTold : Type 0 where
+  -- a refused start leaves all that is lent, and the record, as they were
+  pub refused_start : (n : ℕ) (numbers : List ℕ) (there left : Watched) (number detail : ℕ)
+      → Starts n numbers there (refused number detail) left → left ≡ there
   -- before the first step
   pub at_first : (s : Started)
       → Tells s.n (given s.numbers) [] s.left.slots.told × Untouched s.numbers s.before.slots s.left.slots
