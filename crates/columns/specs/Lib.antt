@@ -1,4 +1,5 @@
 pub mod Calls
 pub mod Examples
+pub mod Layout
 pub mod Log
 pub mod Survey
