@@ -1,11 +1,11 @@
 -- The tables agree with the summary of the trace, and so with the templates' meanings. They are followed beside the summary, all templates at
 -- once: from the start the three letters lead to 154 places, and at each the verdicts are the same, and tell whether the template holds.
 -- Assumes nothing.
-use Prim.Native.Nat.{ℕ, zero, suc, ◌+◌, ◌*◌, ◌≤◌, ◌<◌}
+use Prim.Native.Nat.{ℕ, ◌+◌, ◌*◌, ◌≤◌, ◌<◌}
 use native.Mathlib.Omega.{arith}
-use mathlib.Core.Path.{◌≡◌, refl, sym, ap, ap₂, subst, ◌∙◌}
-use mathlib.Core.Bool.{Bool, true, false, ◌&&◌, ◌||◌, beq, false≢true}
-use mathlib.Core.List.{List, [], ◌∷◌, ◌++◌, map}
+use mathlib.Core.Path.{◌≡◌, refl, sym, ap, ap₂, ◌∙◌}
+use mathlib.Core.Bool.{Bool, true, false, ◌&&◌, beq}
+use mathlib.Core.List.{List, [], ◌∷◌, map}
 use mir.Val.{bool_byte}
 use borrow.Author.Tests.{eqb-true, eqb-false}
 use lib.Dec.{eqb}
@@ -13,7 +13,7 @@ use lib.ListN.{get_or}
 use Rattle.std.specs.Prelude.{if◌then◌else◌}
 use Rattle.std.specs.List.{list_all}
 use Rattle.base.specs.Lists.{range, equal_lists}
-use Rattle.base.proofs.Bools.{equal_same, and_left, and_right, either}
+use Rattle.base.proofs.Bools.{equal_same, and_left, and_right}
 use Rattle.base.proofs.Lists.{equal_lists_same, all_range, range_at}
 use Rattle.declare.specs.declared.Verdict.{Verdict}
 use Rattle.declare.specs.declared.Verdict.TheVariants.{Fulfilled, NotActivated, Violated}
@@ -21,6 +21,7 @@ use Rattle.declare.specs.Meaning.{holds, verdict}
 use Rattle.automata.specs.Automata.{next_of, verdict_of, letter, follow, byte_of, told, stands}
 use Rattle.declare.proofs.Summary.{Summary, summary, flags_of, with_event, stepped_all, answer, summed}
 use Rattle.declare.proofs.Deciding.{decides_holds, decides}
+use Rattle.declare.proofs.Reaching.{among, explored, passed}
 
 -- ## The places
 
@@ -46,20 +47,6 @@ onward p letter =
 abbrev same : Place → Place → Bool
 same p q = eqb p.key q.key && (equal_lists beq p.flags q.flags && equal_lists eqb p.states q.states)
 
-abbrev among : Place → List Place → Bool
-among p [] = false
-among p (q ∷ places) = let rest = among p places in same p q || rest
-
--- the places found so far, and those that others lead to, in so many looks (it need not be right: `closed` tests what is found)
-abbrev explored : ℕ → List Place → List Place → List Place
-explored zero todo found = found
-explored (suc looks) [] found = found
-explored (suc looks) (p ∷ todo) found =
-    elim (among p found) [
-      | true ↦ explored looks todo found
-      | false ↦ explored looks (map (onward p) (range 0 3) ++ todo) (p ∷ found)
-    ]
-
 abbrev at_first : Place
 at_first = place (map (λ t. 0) (range 0 25)) (flags_of (summary 0 0 []))
 
@@ -73,18 +60,18 @@ telling p t = beq (stands (verdict_of t (get_or p.states t 0))) (answer (summary
 
 -- a letter leads on to a place among these
 abbrev leads : List Place → Place → ℕ → Bool
-leads places p letter = among (onward p letter) places
+leads places p letter = among same (onward p letter) places
 
 -- the verdicts are right, and each letter leads on
 abbrev fine : List Place → Place → Bool
 fine places p = (list_all (right p) (range 1 24) && list_all (telling p) (range 1 24)) && list_all (leads places p) (range 0 3)
 
 abbrev closed : List Place → Bool
-closed places = among at_first places && list_all (fine places) places
+closed places = among same at_first places && list_all (fine places) places
 
 unfoldable places : List Place
 unfolding next_of
-places = explored 463 (at_first ∷ []) []
+places = explored same (λ p. map (onward p) (range 0 3)) 463 (at_first ∷ []) []
 
 places_closed : closed places ≡ true
 unfolding places next_of verdict_of summed answer
@@ -101,13 +88,6 @@ same_equal p q h =
     let f = equal_lists_same beq equal_same _ _ (and_left flags states lists) in
     let s = equal_lists_same eqb eqb-true _ _ (and_right flags states lists) in
     λ i. record { key = k i; states = s i; flags = f i }
-
--- what passes at each place of a list passes at one among them
-passed : (test : Place → Bool) (p : Place) (ps : List Place) → list_all test ps ≡ true → among p ps ≡ true → test p ≡ true
-passed test p [] h m = absurd (false≢true m)
-passed test p (q ∷ ps) h m =
-    either (same p q) (λ e. subst (λ r. test r ≡ true) (sym (same_equal p q e)) (and_left (test q) (list_all test ps) h))
-    (λ e. passed test p ps (and_right (test q) (list_all test ps) h) (rw e at m))
 
 -- ## Verdicts and letters
 
@@ -137,17 +117,18 @@ letter_says a b x apart = go (eqb x a) (eqb x b) refl refl
 
 -- ## The agreement
 
-module _ (p : Place) (found : among p places ≡ true) where
+module _ (p : Place) (found : among same p places ≡ true) where
   is_fine : (list_all (right p) (range 1 24) ≡ true) × (list_all (telling p) (range 1 24) ≡ true) × (list_all (leads places p) (range 0 3) ≡ true)
   is_fine =
       let All-right = list_all (right p) (range 1 24) in
       let all_tell = list_all (telling p) (range 1 24) in
       let all_lead = list_all (leads places p) (range 0 3) in
-      let h = passed (fine places) p places (and_right (among at_first places) (list_all (fine places) places) places_closed) found in
+      let all_fine = and_right (among same at_first places) (list_all (fine places) places) places_closed in
+      let h = passed same same_equal (fine places) p places all_fine found in
       let both = and_left (All-right && all_tell) all_lead h in
       (and_left All-right all_tell both, and_right All-right all_tell both, and_right (All-right && all_tell) all_lead h)
 
-  onward_found : (letter : ℕ) → letter < 3 → among (onward p letter) places ≡ true
+  onward_found : (letter : ℕ) → letter < 3 → among same (onward p letter) places ≡ true
   onward_found letter h = all_range (leads places p) 0 3 letter is_fine.2 (omega arith) h
 
   module _ (template : ℕ) (low : 1 ≤ template) (high : template ≤ 24) where
@@ -165,8 +146,8 @@ module _ (p : Place) (found : among p places ≡ true) where
 module _ (template a b : ℕ) (low : 1 ≤ template) (high : template ≤ 24) (apart : eqb a b ≡ false) where
   -- what is read off a state by the table, and what is read off the summary, agree after a trace where they agree at each place
   agree_from : {A : Type 0} (of-state : ℕ → A) (of-summary : Summary → A)
-      → ((p : Place) → among p places ≡ true → of-state (get_or p.states template 0) ≡ of-summary (summary a b p.flags))
-      → (p : Place) (trace : List ℕ) → among p places ≡ true
+      → ((p : Place) → among same p places ≡ true → of-state (get_or p.states template 0) ≡ of-summary (summary a b p.flags))
+      → (p : Place) (trace : List ℕ) → among same p places ≡ true
       → of-state (follow template a b (get_or p.states template 0) trace) ≡ of-summary (stepped_all (summary a b p.flags) trace)
   agree_from of-state of-summary there p [] found = there p found
   agree_from of-state of-summary there p (x ∷ trace) found =
@@ -178,11 +159,11 @@ module _ (template a b : ℕ) (low : 1 ≤ template) (high : template ≤ 24) (a
       ∙ ap₂ (λ is_a is_b. of-summary (stepped_all (with_event (summary a b p.flags) is_a is_b) trace)) says.0 says.1
 
   agree_at_first : {A : Type 0} (of-state : ℕ → A) (of-summary : Summary → A)
-      → ((p : Place) → among p places ≡ true → of-state (get_or p.states template 0) ≡ of-summary (summary a b p.flags))
+      → ((p : Place) → among same p places ≡ true → of-state (get_or p.states template 0) ≡ of-summary (summary a b p.flags))
       → (trace : List ℕ) → of-state (follow template a b 0 trace) ≡ of-summary (stepped_all (summary a b []) trace)
   agree_at_first of-state of-summary there trace =
       ap (λ k. of-state (follow template a b k trace)) (sym (range_at (λ t. 0) 25 template 0 (omega arith)))
-      ∙ agree_from of-state of-summary there at_first trace (and_left (among at_first places) _ places_closed)
+      ∙ agree_from of-state of-summary there at_first trace (and_left (among same at_first places) _ places_closed)
 
   -- by the tables, a trace leads from state 0 to a state that has the trace's verdict
   pub follow_right : (trace : List ℕ) → verdict_of template (follow template a b 0 trace) ≡ verdict template a b trace

@@ -29,10 +29,10 @@ module _ (flag : Summary → Bool) (activity : Summary → ℕ) (takes-up : (s :
       (occurred (stepped s x) trace
       ∙ rw (takes-up s x, stays s x) (or_assoc (flag s) (eqb x (activity s)) (occurs (activity s) trace)))
 
-one_after : (s : Summary) (trace : List ℕ) → (stepped_all s trace).one ≡ s.one || occurs s.a trace
+pub one_after : (s : Summary) (trace : List ℕ) → (stepped_all s trace).one ≡ s.one || occurs s.a trace
 one_after = occurred (λ s. s.one) (λ s. s.a) (λ s x. refl) (λ s x. refl)
 
-seen_after : (s : Summary) (trace : List ℕ) → (stepped_all s trace).seen ≡ s.seen || occurs s.b trace
+pub seen_after : (s : Summary) (trace : List ℕ) → (stepped_all s trace).seen ≡ s.seen || occurs s.b trace
 seen_after = occurred (λ s. s.seen) (λ s. s.b) (λ s x. refl) (λ s x. refl)
 
 -- ## Each a, and what comes after it

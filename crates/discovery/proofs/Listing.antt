@@ -1,16 +1,14 @@
 -- What is listed and what is replayed, by membership and order, and how many there can be.
 -- Assumes nothing.
-use Prim.Native.Nat.{ℕ, ◌*◌, ◌≤◌}
+use Prim.Native.Nat.{◌*◌, ◌≤◌}
 use mathlib.Core.Path.{◌≡◌, refl}
 use mathlib.Core.List.{List, [], ◌∷◌}
 use native.Mathlib.Omega.{arith}
-use native.Mathlib.Nat.{mul-le-mul}
 use lib.ListN.{length}
 use Rattle.base.proofs.Lists.{count_weaker, count_at_most}
 use Rattle.declare.specs.declared.constraints.Constraint.{Constraint}
 use Rattle.declare.specs.Constraints.{constraints, Exactly}
 use Rattle.declare.proofs.constraints.Members.{filter_exactly, constraints_number}
-use Rattle.eventlog.specs.Store.{most_activities}
 use Rattle.declare.specs.Walk.{AtMostAll}
 use Rattle.pruning.specs.Question.{Question, survives, is_listed}
 use Rattle.discovery.specs.Listing.{listed, replayed, numbers, layout}

@@ -120,9 +120,9 @@ module _ (q q' : Question) (alike : AlikeQuestions q q') where
   unfolding fulfilments
   same_fulfilments = fun_ext (λ c. permuted_count (fulfilled c.template c.a c.b) alike.traces)
 
-  same_support : support q.traces ≡ support q'.traces
+  same_support : (c : Constraint) → support (class_of c.template) q.traces c ≡ support (class_of c.template) q'.traces c
   unfolding support
-  same_support = fun_ext (λ c. permuted_count _ alike.traces)
+  same_support c = permuted_count _ alike.traces
 
   meets_alike : {x y : ℕ} → x ≡ y → meets_threshold q x ≡ meets_threshold q' y
   meets_alike e = cc (ap (λ (s : Settings). s.threshold) alike.settings, trace_count_alike)
@@ -131,7 +131,7 @@ module _ (q q' : Question) (alike : AlikeQuestions q q') where
   is_listed_alike = fun_ext (λ c. meets_alike (ap (λ f. f c) same_fulfilments))
 
   pub survives_alike : survives q ≡ survives q'
-  survives_alike = fun_ext (λ c. ap (λ p. always (class_of c.template) || p) (meets_alike (ap (λ f. f c) same_support)))
+  survives_alike = fun_ext (λ c. ap (λ p. always (class_of c.template) || p) (meets_alike (same_support c)))
 
   pub layout_alike : (cs : List Constraint) → layout q cs ≡ layout q' cs
   unfolding layout

@@ -1,8 +1,8 @@
--- Document 01's starred runs on the sorting table as one table with one theorem about the definitions; its sample, its two runs and
--- empty traces (document 02) beside them.
+-- Document 01's starred runs on the sorting table as one table with one theorem about the definitions; its sample, its two runs,
+-- bounds and empty traces (document 02) beside them.
 -- Assumes nothing.
-use Rattle.std.specs.Prelude.{ℕ, ◌≡◌, refl, Bool, true, false, List, [], ◌∷◌}
-use Rattle.base.specs.Checks.{Reply, refused, reply}
+use Rattle.std.specs.Prelude.{ℕ, ◌≡◌, refl, Bool, true, false, List, [], ◌∷◌, replicate}
+use Rattle.base.specs.Checks.{Reply, gives, refused, reply}
 use Rattle.declare.specs.declared.Verdict.{Verdict}
 use Rattle.declare.specs.declared.Verdict.TheVariants.{Fulfilled, NotActivated, Violated}
 use Rattle.declare.specs.Meaning.{meanings, holds, activated, fulfilled, verdict}
@@ -105,3 +105,22 @@ empty_ones =
 pub empty_ones_hold : all_by_definition empty_ones ≡ empty_ones
 unfolding empty_ones constraints fulfilments support listed replayed layout verdict fulfilled activated holds meanings
 empty_ones_hold = refl
+
+-- a threshold is 1 to 1000; a slice for five constraints has 20 numbers, and for a shorter one the detail is 5; the order is 3, 11, 10
+abbrev one_trace : ℕ → Question
+one_trace threshold = question_over 1 ((0 ∷ []) ∷ []) (by threshold)
+
+pub bounds : List Row
+bounds =
+    replies (one_trace 0) (replicate 20 0) (refused 3 0) ∷
+    replies (one_trace 1) (replicate 20 0) (gives (5 ∷ 8 ∷ 1 ∷ [])) ∷
+    replies (one_trace 1000) (replicate 20 0) (gives (5 ∷ 8 ∷ 1 ∷ [])) ∷
+    replies (one_trace 1001) (replicate 20 0) (refused 3 0) ∷
+    replies (one_trace 1000) (replicate 19 0) (refused 10 5) ∷
+    replies (question_over 1 [] (by 1001)) [] (refused 3 0) ∷
+    replies (question_over 1 [] (by 1000)) [] (refused 11 0) ∷
+    []
+
+pub bounds_hold : all_by_definition bounds ≡ bounds
+unfolding bounds constraints fulfilments support listed replayed layout verdict fulfilled activated holds meanings
+bounds_hold = refl

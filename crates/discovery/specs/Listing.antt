@@ -5,7 +5,7 @@ use Rattle.std.specs.List.{filter}
 use Rattle.base.specs.Lists.{flat_map}
 use Rattle.declare.specs.declared.constraints.Constraint.{Constraint}
 use Rattle.declare.specs.Constraints.{constraints}
-use Rattle.pruning.specs.Question.{Question, fulfilments, survives, is_listed}
+use Rattle.pruning.specs.Question.{Question, fulfilments, support, survives, is_listed}
 
 -- the constraints to be listed, in their order
 unfoldable pub listed : Question → List Constraint
@@ -14,7 +14,7 @@ listed q = filter (is_listed q) (constraints q.activities)
 
 -- the constraints that are replayed, in their order
 unfoldable pub replayed : Question → List Constraint
-unfolding constraints
+unfolding constraints support
 replayed q = filter (survives q) (constraints q.activities)
 
 -- four numbers a constraint

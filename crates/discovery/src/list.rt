@@ -43,7 +43,13 @@ fn write(list: &mut [u16], listed: u32, c: Constraint, count: u16)
 }
 
 // Passes over one constraint that pruning keeps: it is replayed, and written where its count meets the threshold.
-fn consider(query: Query, c: Constraint, automaton: SealedAutomaton, tally: Tally, list: &mut [u16]) -> Tally
+fn consider(
+    query: Query,
+    c: Constraint,
+    automaton: SealedAutomaton,
+    tally: Tally,
+    list: &mut [u16],
+) -> Tally
     requires kept { Kept (asked_by query) automaton c }
     requires tally_fits { TallyFits query.sound.store.activities tally }
     ensures { Passes (asked_by query.entry) (c ∷ []) tally list.old result list.new }

@@ -29,6 +29,7 @@ asked m settings = question_over m.store.activities (kept m) settings
 abbrev pub trace_count : Question → ℕ
 trace_count q = length q.traces
 
+-- a threshold is 1 to 1000
 abbrev pub threshold_in_range : Settings → Bool
 threshold_in_range settings = in_range 1 settings.threshold 1000
 
@@ -59,12 +60,8 @@ counts_for Either a b trace = occurs a trace || occurs b trace
 counts_for Both a b trace = occurs a trace && occurs b trace
 
 -- the traces that count for a class, by a constraint's activities
-abbrev pub class_support : Class → List (List ℕ) → Constraint → ℕ
-class_support class traces c = count (counts_for class c.a c.b) traces
-
--- the traces of a constraint's class
-unfoldable pub support : List (List ℕ) → Constraint → ℕ
-support traces c = class_support (class_of c.template) traces c
+unfoldable pub support : Class → List (List ℕ) → Constraint → ℕ
+support class traces c = count (counts_for class c.a c.b) traces
 
 -- a class that pruning keeps always, whatever its support
 abbrev pub always : Class → Bool
@@ -75,11 +72,11 @@ always Both = false
 
 -- pruning keeps a constraint of this class: 4 to 6 always, the others when the traces of their class meet the threshold
 abbrev pub survives_in : Class → Question → Constraint → Bool
-survives_in class q c = always class || meets_threshold q (class_support class q.traces c)
+survives_in class q c = always class || meets_threshold q (support class q.traces c)
 
--- the class is the one of its template
+-- pruning keeps the constraint: the template's number settles the class
 abbrev pub survives : Question → Constraint → Bool
-survives q c = always (class_of c.template) || meets_threshold q (support q.traces c)
+survives q c = survives_in (class_of c.template) q c
 
 -- the constraint's count meets the threshold
 abbrev pub is_listed : Question → Constraint → Bool

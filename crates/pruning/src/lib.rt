@@ -6,7 +6,7 @@ ghost use Rattle.std.specs.List.{list_any};
 ghost use Rattle.base.specs.Lists.{non_empty};
 ghost use Rattle.eventlog.specs.Store.{kept};
 ghost use Rattle.eventlog.specs.SoundStore.{memory_of};
-ghost use Rattle.pruning.specs.Question.{asked, threshold_in_range, meets_threshold, trace_count as trace_count_of, class_of, counts_for, class_support, survives_in};
+ghost use Rattle.pruning.specs.Question.{asked, threshold_in_range, meets_threshold, trace_count as trace_count_of, class_of, counts_for, support as support_of, survives_in};
 
 use declare::Constraint;
 use eventlog::SoundStore;
@@ -112,7 +112,7 @@ impl<'a> Query<'a> {
     // How many kept traces of length 1 or more count for a class, by a constraint's activities.
     #[tactic(auto, using(crate::proofs::Counting::few_kept))]
     fn support(self, c: Constraint, class: Class) -> u32
-        ensures { result ≡ class_support class (asked_by self.entry).traces c }
+        ensures { result ≡ support_of class (asked_by self.entry).traces c }
     {
         self.sound
             .traces()

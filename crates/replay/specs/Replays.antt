@@ -21,7 +21,8 @@ pub record Kept (q : Question) (automaton : SealedAutomaton) (c : Constraint) : 
   pub survived : survives q c ≡ true
   pub of_template : automaton ≡ sealed c.template
 
--- "the function that replays a rule requires that the rule is kept, and hands back its fulfilled runs and the replayed number plus one"
+-- "The function that replays a rule over the store requires that the rule is kept, and hands back its fulfilled runs and the replayed number
+-- it was given plus one"
 pub record Replays (q : Question) (c : Constraint) (replayed : ℕ) (r : Replayed) : Type 0 where
   pub fulfilled : r.fulfilled ≡ fulfilments q.traces c
   pub counted : r.replayed ≡ replayed + 1

@@ -1,9 +1,10 @@
 use Rattle.std.proofs.Common.{◌∙◌, rules, tests}
-use Rattle.pruning.specs.Question.{counts_for}
+use Rattle.pruning.specs.Question.{counts_for, support}
 use Rattle.pruning.proofs.Counting.{counted}
 use Rattle.pruning.proofs.Query.support.Goals as goal
 
 pub returns : goal.returns
+unfolding support
 returns c =
     let h = c.args.c in
     counted (counts_for c.args.class h.a h.b) (c.filter.ensures.source ∙ c.traces.ensures) c.filter.ensures.closure
