@@ -1,11 +1,11 @@
--- Outcomes of calls: how one is shown, and what follows from one. A refused call changes nothing, an accepted one gives the values and
--- leaves the new, and no call has two outcomes.
+-- Outcomes of calls: how one is shown, that there is one, and what follows from one. A refused call changes nothing, an accepted one gives
+-- the values and leaves the new, and no call has two outcomes.
 -- Assumes nothing.
 use Prim.Native.Nat.{ℕ}
-use mathlib.Core.Path.{◌≡◌, sym, ◌∙◌}
+use mathlib.Core.Path.{◌≡◌, refl, sym, ◌∙◌}
 use mathlib.Core.Bool.{false}
 use mathlib.Core.List.{List, ◌∷◌}
-use Rattle.base.specs.Checks.{Check, Reply, gives, refused, reply, Outcome}
+use Rattle.base.specs.Checks.{Check, Reply, gives, refused, reply, when_passed, Outcome}
 use Rattle.base.proofs.Checks.{NoneFail, none_fail, given_values, given-new, refused_old}
 
 module _ {A : Type 0} {checks : List Check} {values : List ℕ} {new old : A} where
@@ -20,6 +20,10 @@ module _ {A : Type 0} {checks : List Check} {values : List ℕ} {new old : A} wh
       Outcome checks values new old said left
   outcome_accepted {given = given} says e new-left =
       record { says = says; leaves = new-left ∙ sym (given-new checks values given (sym says ∙ e) new old) }
+
+  -- there always is one
+  pub some_outcome : Outcome checks values new old (reply checks values) (when_passed checks new old)
+  some_outcome = record { says = refl; leaves = refl }
 
   -- ## What follows from one
 

@@ -3,14 +3,13 @@
 
 mod values;
 
-ghost use Rattle.std.specs.Prelude.{◌≡◌, List, ℕ};
+ghost use Rattle.std.specs.Prelude.{◌≡◌, List, [], ℕ};
 ghost use Rattle.answers.specs.Answers.{said_by, record_after};
-ghost use Rattle.eventlog.specs.Store.{sound, lent};
-ghost use Rattle.eventlog.specs.Calls.{Opens, Adds};
-ghost use Rattle.columns.specs.Calls.{Reads};
-ghost use Rattle.discovery.specs.Calls.{Finds};
+ghost use Rattle.eventlog.specs.Store.{Memory, sound, lent, with_store};
+ghost use Rattle.history.specs.Ledger.{open_for, add as add_of, read as read_of, find as find_of};
 ghost use Rattle.watcher.specs.Calls.{watched, Starts, Steps};
-ghost use Rattle.capi.specs.Numbers.{number_of, InNumbers, Replied, Returned};
+ghost use Rattle.capi.specs.Numbers.{number_of, InNumbers, Returned};
+ghost use Rattle.capi.specs.Histories.{CalledFromC, to_c};
 
 use answers::Refusal;
 use eventlog::Store;
@@ -41,20 +40,20 @@ fn put<T: Values + Drop>(answer: &mut [u64; 3], said: Result<T, Refusal>) -> u32
 }
 
 // A new record in the place of the one there was, where a call made one.
-fn put_record<T: Copy>(record: &mut T, made: Result<T, Refusal>) -> u32
-    ensures stored { record.new ≡ record_after record.old made }
+fn put_record<T: Copy>(there: &mut T, made: Result<T, Refusal>) -> u32
+    ensures stored { there.new ≡ record_after there.old made }
     ensures number { (values : T → List ℕ) → result ≡ number_of (said_by values made) }
 {
     let number = number(&made);
     if let Ok(new) = made {
-        *record = new;
+        *there = new;
     }
     number
 }
 
 #[unsafe(no_mangle)]
 pub extern "C" fn budgieleaf_open(n: u32, store: &mut Store) -> u32
-    ensures { Returned (Opens n store.old) result store.new }
+    ensures { (m : Memory) → CalledFromC (with_store store.old m) (open_for n) (to_c result [] []) (with_store store.new m) }
 {
     put_record(store, eventlog::open(n))
 }
@@ -75,8 +74,8 @@ pub extern "C" fn budgieleaf_add(
     trace: &[u8],
     answer: &mut [u64; 3],
 ) -> u32
-    ensures { Replied (Adds (lent store.old events.old ends.old) trace.now)
-        result (lent store.new events.new ends.new) answer.new }
+    ensures { CalledFromC (lent store.old events.old ends.old) (add_of trace.now) (to_c result answer.new [])
+        (lent store.new events.new ends.new) }
 {
     put(answer, eventlog::add(store, events, ends, trace))
 }
@@ -89,8 +88,8 @@ pub extern "C" fn budgieleaf_read(
     log: &[u8],
     answer: &mut [u64; 3],
 ) -> u32
-    ensures { Replied (Reads (lent store.old events.old ends.old) log.now)
-        result (lent store.new events.new ends.new) answer.new }
+    ensures { CalledFromC (lent store.old events.old ends.old) (read_of log.now) (to_c result answer.new [])
+        (lent store.new events.new ends.new) }
 {
     put(answer, columns::read(store, events, ends, log))
 }
@@ -104,8 +103,8 @@ pub extern "C" fn budgieleaf_find(
     list: &mut [u16],
     answer: &mut [u64; 3],
 ) -> u32
-    ensures { Replied (Finds (lent store.now events.now ends.now) (record { threshold = threshold }) list.old)
-        result list.new answer.new }
+    ensures { CalledFromC (lent store.now events.now ends.now) (find_of (record { threshold = threshold }) list.old)
+        (to_c result answer.new list.new) (lent store.exit.now events.exit.now ends.exit.now) }
 {
     let settings = Settings { threshold };
     put(

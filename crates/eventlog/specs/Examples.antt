@@ -1,9 +1,9 @@
--- The place that refusal 6 of add carries, computed from the definitions.
+-- The bounds of open and add, and the place that refusal 6 of add carries, computed from the definitions.
 -- Assumes nothing.
-use Rattle.std.specs.Prelude.{◌≡◌, refl, [], ◌∷◌}
+use Rattle.std.specs.Prelude.{ℕ, ◌≡◌, refl, [], ◌∷◌, replicate}
 use Rattle.base.specs.Checks.{gives, refused, reply}
 use Rattle.eventlog.specs.declared.Room.{Room}
-use Rattle.eventlog.specs.Calls.{declared_front, add_checks}
+use Rattle.eventlog.specs.Calls.{open_checks, declared_front, add_checks}
 
 -- two activities declared, no trace kept, room for one trace of four events
 abbrev small : Room
@@ -20,3 +20,27 @@ places :
     × (reply (add_checks small (0 ∷ 1 ∷ 1 ∷ 0 ∷ 1 ∷ [])) [] ≡ refused 9 0)
 unfolding declared_front
 places = (refl, refl, refl, refl, refl, refl, refl)
+
+-- N is 1 to 32
+opens :
+    (reply (open_checks 0) [] ≡ refused 2 0)
+    × (reply (open_checks 1) [] ≡ gives [])
+    × (reply (open_checks 32) [] ≡ gives [])
+    × (reply (open_checks 33) [] ≡ refused 2 0)
+opens = (refl, refl, refl, refl)
+
+abbrev with_room : ℕ → ℕ → ℕ → ℕ → Room
+with_room traces ends last events = record { activities = 2; traces = traces; last = last; space = record { events = events; ends = ends } }
+
+-- 4095 traces, or as many as the ends slice has room for; a trace of 4096 events; events up to the end of their slice
+bounds :
+    (reply (add_checks (with_room 4094 4097 0 1) (0 ∷ [])) [] ≡ gives [])
+    × (reply (add_checks (with_room 4095 4097 0 1) (0 ∷ [])) [] ≡ refused 8 0)
+    × (reply (add_checks (with_room 4 5 0 1) (0 ∷ [])) [] ≡ gives [])
+    × (reply (add_checks (with_room 5 5 0 1) (0 ∷ [])) [] ≡ refused 8 0)
+    × (reply (add_checks (with_room 0 5 0 4098) (replicate 4096 1)) [] ≡ gives [])
+    × (reply (add_checks (with_room 0 5 0 4098) (replicate 4097 1)) [] ≡ refused 7 0)
+    × (reply (add_checks (with_room 1 5 3 5) (0 ∷ 1 ∷ [])) [] ≡ gives [])
+    × (reply (add_checks (with_room 1 5 3 5) (0 ∷ 1 ∷ 0 ∷ [])) [] ≡ refused 9 0)
+unfolding declared_front
+bounds = (refl, refl, refl, refl, refl, refl, refl, refl)

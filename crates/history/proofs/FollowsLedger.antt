@@ -1,9 +1,10 @@
 -- All histories follow the ledger (demand 3). Each call is known by its contract's record alone.
 -- Assumes nothing.
-use Prim.Native.Nat.{ℕ, ◌*◌}
+use Prim.Native.Nat.{◌*◌}
 use mathlib.Core.Path.{◌≡◌, refl, sym, ap, ap₂, subst, transport, ◌∙◌}
-use mathlib.Core.List.{List, [], ◌∷◌, ◌++◌}
-use lib.ListN.{length, take, get_elem?}
+use mathlib.Core.List.{List, [], ◌∷◌}
+use native.Mathlib.Omega.{arith}
+use lib.ListN.{length, take}
 use lib.Dec.{eqb}
 use Rattle.std.specs.List.{filter}
 use Rattle.base.specs.Lists.{non_empty, count, equal_lists}
@@ -11,15 +12,15 @@ use Rattle.base.specs.Checks.{gives}
 use Rattle.eventlog.specs.declared.Space.{Space}
 use Rattle.eventlog.specs.Store.{Memory, space}
 use Rattle.declare.specs.declared.constraints.Constraint.{Constraint}
-use Rattle.pruning.specs.declared.Settings.{Settings}
 use Rattle.pruning.specs.Question.{trace_count}
 use Rattle.discovery.specs.Listing.{numbers, layout}
 use Rattle.declare.specs.Constraints.{Exactly}
 use Rattle.declare.proofs.constraints.Members.{exactly_one}
 use Rattle.discovery.proofs.Orderless.{without_empty, question_over_alike, trace_count_alike, is_listed_alike, survives_alike, layout_alike}
 use Rattle.history.specs.Ledger.{Call, open_for, add, read, find, Shown, Ledger, first_ledger, next_ledger}
-use Rattle.history.specs.Histories.{Called, Fresh, History, after_all, ledger_after, shows_all, ledger_shows, Never1, Keeps, FindIn, ledger_of, question_of, RightFind, Accepted, AlikeFinds, EqualFinds, FindAt, FollowsLedger}
-use Rattle.history.proofs.Replies.{ledger_never_1}
+use Rattle.history.specs.Histories.{Called, Fresh, History, after_all, ledger_after, shows_all, ledger_shows, Never1, Keeps, FindIn, ledger_of, question_of, RightFind, Accepted, AlikeFinds, EqualFinds, FollowsLedger}
+use Rattle.history.proofs.Chains.{find_at}
+use Rattle.history.proofs.Replies.{ledger_refused}
 use Rattle.history.proofs.CallSteps.{fresh_keeps, Follows, open_follows, add_follows, read_follows, find_follows}
 use Rattle.history.proofs.Finds.{shows_right, right_gives}
 
@@ -50,7 +51,8 @@ from_fresh m last cs ss fresh = history_follows (space m) (first_ledger m.store.
 
 ledger_never_1_all : (lengths : Space) (l : Ledger) (cs : List Call) → Never1 (shows_all lengths l cs)
 ledger_never_1_all lengths l [] = tt
-ledger_never_1_all lengths l (c ∷ cs) = (ledger_never_1 lengths l c, ledger_never_1_all lengths (next_ledger lengths l c) cs)
+ledger_never_1_all lengths l (c ∷ cs) =
+    (λ detail e. omega (arith, ledger_refused lengths l c 1 detail e), ledger_never_1_all lengths (next_ledger lengths l c) cs)
 
 -- ## Finds
 
@@ -101,66 +103,6 @@ found_alike f g (values, given) (values', given') same =
           ∙ sym (subst (λ (cs : List Constraint). take (numbers * length cs) g.shown.list ≡ layout q' cs) same-listed b.front);
     }
 
--- ## Every find of a history is one of those finds
-
--- A history cut after some of its calls.
-pub record Cut (m : Memory) (cs ds : List Call) (ss : List Shown) (last : Memory) : Type 0 where
-  pub front : List Shown
-  pub back : List Shown
-  pub middle : Memory
-  pub first : History m cs front middle
-  pub second : History middle ds back last
-  pub there : get_elem? ss (length cs) ≡ get_elem? back 0
-
-cut_after : (m last : Memory) (cs ds : List Call) (ss : List Shown) → History m (cs ++ ds) ss last → Cut m cs ds ss last
-cut_after m last [] ds ss h = record { front = []; back = ss; middle = m; first = refl; second = h; there = refl }
-cut_after m last (c ∷ cs) ds [] h = absurd h
-cut_after m last (c ∷ cs) ds (s ∷ ss) (m', called, h) =
-    let k = cut_after m' last cs ds ss h in
-    record {
-      front = s ∷ k.front;
-      back = k.back;
-      middle = k.middle;
-      first = (m', called, k.first);
-      second = k.second;
-      there = k.there;
-    }
-
-find_at :
-    (m last : Memory) (before later : List Call) (settings : Settings) (list : List ℕ) (ss : List Shown) → Fresh m →
-    History m (before ++ (find settings list ∷ later)) ss last → FindAt m before settings list ss
-find_at m last before later settings list ss fresh h = go cut.back cut.second cut.there
-  where
-    cut : Cut m before (find settings list ∷ later) ss last
-    cut = cut_after m last before (find settings list ∷ later) ss h
-
-    go :
-        (back : List Shown) → History cut.middle (find settings list ∷ later) back last →
-        get_elem? ss (length before) ≡ get_elem? back 0 → FindAt m before settings list ss
-    go [] h there = absurd h
-    go (s ∷ back) (m', called, h) there =
-        record {
-          found =
-              record {
-                start = m;
-                is_fresh = fresh;
-                before = before;
-                shown_before = cut.front;
-                memory = cut.middle;
-                history = cut.first;
-                settings = settings;
-                list = list;
-                shown = s;
-                memory' = m';
-                called = called;
-              };
-          same_start = refl;
-          same_before = refl;
-          same_settings = refl;
-          same_list = refl;
-          shown_there = there;
-        }
-
 -- every call of every history is as in the ledger, and every find is right
 pub follows_ledger : FollowsLedger
 follows_ledger =
@@ -170,7 +112,7 @@ follows_ledger =
           λ m last cs ss fresh h.
           subst Never1 (sym (from_fresh m last cs ss fresh h).0) (ledger_never_1_all (space m) (first_ledger m.store.activities) cs);
       keeps = λ m last cs ss fresh h. (from_fresh m last cs ss fresh h).1;
-      every_find = find_at;
+      every_find = find_at Called;
       right = found_right;
       alike = found_alike;
     }

@@ -8,8 +8,8 @@ use Rattle.declare.specs.declared.constraints.Constraint.{Constraint}
 use Rattle.declare.specs.Constraints.{Exactly}
 use Rattle.eventlog.specs.declared.Space.{Space}
 use Rattle.eventlog.specs.declared.Store.{Store}
-use Rattle.eventlog.specs.Store.{Memory, with_store, sound, kept, space, room}
-use Rattle.eventlog.specs.Calls.{Opens, Adds}
+use Rattle.eventlog.specs.Store.{Memory, memory, with_store, declarable, sound, kept, space, room}
+use Rattle.eventlog.specs.Calls.{empty, Opens, Adds}
 use Rattle.columns.specs.Calls.{Reads}
 use Rattle.pruning.specs.declared.Settings.{Settings}
 use Rattle.pruning.specs.Question.{Question, trace_count, is_listed, survives}
@@ -20,9 +20,13 @@ use Rattle.history.specs.Ledger.{Call, open_for, add, read, find, Shown, Ledger,
 
 -- ## Histories
 
+-- what one call may show, as values of A, and leave
+abbrev pub StepOf : Type 0 → Type 1
+StepOf A = Memory → Call → A → Memory → Type 0
+
 -- One call in a memory: what it may show and leave is what its function's contract says, in the contract's own words. The functions of
 -- src/ promise just this.
-abbrev pub Called : Memory → Call → Shown → Memory → Type 0
+abbrev pub Called : StepOf Shown
 Called m (open_for n) s m' = (store : Store) × Opens n m.store s.said store × (m' ≡ with_store store m) × (s.list ≡ [])
 Called m (add trace) s m' = Adds m trace s.said m' × (s.list ≡ [])
 Called m (read log) s m' = Reads m log s.said m' × (s.list ≡ [])
@@ -36,11 +40,15 @@ pub record Fresh (m : Memory) : Type 0 where
   pub opens : Opens n there (gives values) m.store
 
 -- the calls, from a memory to the last memory: each call gets the memory that the one before left
+abbrev pub Chain : {A : Type 0} → StepOf A → Memory → List Call → List A → Memory → Type 0
+Chain Step m [] [] last = last ≡ m
+Chain Step m [] (s ∷ ss) last = ⊥
+Chain Step m (c ∷ cs) [] last = ⊥
+Chain Step m (c ∷ cs) (s ∷ ss) last = (m' : Memory) × Step m c s m' × Chain Step m' cs ss last
+
+-- a history: each call is one that the functions' contracts allow
 abbrev pub History : Memory → List Call → List Shown → Memory → Type 0
-History m [] [] last = last ≡ m
-History m [] (s ∷ ss) last = ⊥
-History m (c ∷ cs) [] last = ⊥
-History m (c ∷ cs) (s ∷ ss) last = (m' : Memory) × Called m c s m' × History m' cs ss last
+History = Chain Called
 
 -- ## The ledger beside a history
 
@@ -75,26 +83,30 @@ pub record Keeps (space : Space) (l : Ledger) (m : Memory) : Type 0 where
 
 -- ## Finds
 
--- A history from a fresh store up to some find in it: the calls before, and what the find shows.
-pub record FindIn : Type 0 where
+-- Calls from a fresh store up to some find among them: the calls before, and what the find shows.
+pub record FindBy {A : Type 0} (Step : StepOf A) : Type 0 where
   pub start : Memory
   pub is_fresh : Fresh start
   pub before : List Call
-  pub shown_before : List Shown
+  pub shown_before : List A
   pub memory : Memory
-  pub history : History start before shown_before memory
+  pub history : Chain Step start before shown_before memory
   pub settings : Settings
   pub list : List ℕ
-  pub shown : Shown
+  pub shown : A
   pub memory' : Memory
-  pub called : Called memory (find settings list) shown memory'
+  pub called : Step memory (find settings list) shown memory'
+
+-- a find of a history
+abbrev pub FindIn : Type 0
+FindIn = FindBy Called
 
 -- the ledger before it
-abbrev pub ledger_of : FindIn → Ledger
+abbrev pub ledger_of : {A : Type 0} {Step : StepOf A} → FindBy Step → Ledger
 ledger_of f = ledger_after f.start f.before
 
 -- what it asks, by the ledger
-abbrev pub question_of : FindIn → Question
+abbrev pub question_of : {A : Type 0} {Step : StepOf A} → FindBy Step → Question
 question_of f = question (ledger_of f) f.settings
 
 -- What a find shows. `listed` has exactly the constraints whose count meets the threshold and `replayed` exactly those that pruning
@@ -116,7 +128,7 @@ abbrev pub Accepted : FindIn → Type 0
 Accepted f = (values : List ℕ) × (f.shown.said ≡ gives values)
 
 -- two finds alike in N, settings and kept traces of length 1 or more, whatever their order and however many empty ones either keeps
-pub record AlikeFinds (f g : FindIn) : Type 0 where
+pub record AlikeFinds {A : Type 0} {Step : StepOf A} (f g : FindBy Step) : Type 0 where
   pub activities : (ledger_of f).activities ≡ (ledger_of g).activities
   pub settings : f.settings ≡ g.settings
   pub traces : Alike (ledger_of f).traces (ledger_of g).traces
@@ -130,9 +142,10 @@ pub record EqualFinds (f g : FindIn) : Type 0 where
   pub said' : g.shown.said ≡ gives (listed ∷ replayed ∷ all ∷ [])
   pub lists : take (numbers * listed) f.shown.list ≡ take (numbers * listed) g.shown.list
 
--- A find of a history, behind the calls `before`: it is from the same start, and what it shows stands at its place among all that was shown.
-pub record FindAt (m : Memory) (before : List Call) (settings : Settings) (list : List ℕ) (ss : List Shown) : Type 0 where
-  pub found : FindIn
+-- A find behind the calls `before`: it is from the same start, and what it shows stands at its place among all that was shown.
+pub record FindAt {A : Type 0} (Step : StepOf A) (m : Memory) (before : List Call) (settings : Settings) (list : List ℕ) (ss : List A)
+    : Type 0 where
+  pub found : FindBy Step
   pub same_start : found.start ≡ m
   pub same_before : found.before ≡ before
   pub same_settings : found.settings ≡ settings
@@ -151,8 +164,15 @@ pub record FollowsLedger : Type 0 where
   -- every find of every history is one of those that the next two speak of
   pub every_find :
       (m last : Memory) (before later : List Call) (settings : Settings) (list : List ℕ) (ss : List Shown) → Fresh m →
-      History m (before ++ (find settings list ∷ later)) ss last → FindAt m before settings list ss
+      History m (before ++ (find settings list ∷ later)) ss last → FindAt Called m before settings list ss
   -- every find gives the ledger's list and numbers, or is refused as the ledger says
   pub right : (f : FindIn) → RightFind (question_of f) f.list f.shown
   -- accepted finds that are alike give equal lists and numbers, in one history or in two
   pub alike : (f g : FindIn) → Accepted f → Accepted g → AlikeFinds f g → EqualFinds f g
+
+-- Histories are there: the claim does not speak of nothing.
+pub record HistoriesExist : Type 0 where
+  -- what an accepted open gives for n is fresh, beside any buffers
+  pub fresh : (n : ℕ) (events ends : List ℕ) → declarable n ≡ true → Fresh (memory (empty n) events ends)
+  -- in any memory, and so from a fresh store, all calls can be made, one after the other
+  pub history : (m : Memory) (cs : List Call) → (ss : List Shown) × (last : Memory) × History m cs ss last

@@ -52,7 +52,7 @@ pub fn find(
     list: &mut [u16],
 ) -> Result<Found, Refusal>
     ensures { Called (lent store events.now ends.now) (find_of settings list.old)
-        (record { said = find_said result; list = list.new }) (lent store events.now ends.now) }
+        (record { said = find_said result; list = list.new }) (lent store events.exit.now ends.exit.now) }
 {
     discovery::find(store, events, ends, settings, list)
 }

@@ -1,6 +1,6 @@
--- Document 01's sample, byte for byte, and its order of refusals, as theorems about the definitions.
+-- Document 01's sample, byte for byte, its order of refusals and findrules' sizes, as theorems about the definitions.
 -- Assumes nothing.
-use Rattle.std.specs.Prelude.{ℕ, ◌≡◌, refl, List, [], ◌∷◌}
+use Rattle.std.specs.Prelude.{ℕ, ◌≡◌, refl, List, [], ◌∷◌, length}
 use Rattle.declare.specs.Meaning.{meanings, holds, activated, fulfilled}
 use Rattle.fields.specs.Field.{spell}
 use Rattle.columns.specs.Log.{lines, log_checks, spelled}
@@ -8,7 +8,7 @@ use Rattle.declare.specs.Constraints.{constraints}
 use Rattle.pruning.specs.Question.{fulfilments, support}
 use Rattle.discovery.specs.Listing.{listed, replayed}
 use Rattle.report.specs.Print.{refusal_line, first_line, constraint_line, found_text}
-use Rattle.report.specs.Report.{settings_laid_out, activities_set, settings_set, lent_list, checks_to_read, checks_of_report, output_of}
+use Rattle.report.specs.Report.{most_input, lent_space, lent_constraints, settings_laid_out, activities_set, settings_set, lent_list, checks_to_read, checks_of_report, output_of}
 
 pub sample : List ℕ
 sample =
@@ -55,3 +55,13 @@ unfolding
     first_line constraint_line refusal_line spell lines log_checks spelled constraints fulfilments support listed replayed
     fulfilled activated holds meanings
 refusals_print = (refl, refl, refl, refl, refl)
+
+-- the longest input, and what is lent
+sizes :
+    (most_input ≡ 65536)
+    × (lent_space.events ≡ 6552)
+    × (lent_space.ends ≡ 4095)
+    × (lent_constraints ≡ 8000)
+    × (length lent_list ≡ 32000)
+unfolding lent_list
+sizes = (refl, refl, refl, refl, refl)

@@ -1,4 +1,5 @@
--- What the functions that write text promise each other.
+-- What the functions that write text promise each other. Nothing here has to be believed: proofs/Puts.antt and Reporting.antt show that it
+-- comes to the definitions of `Print`.
 -- Assumes nothing.
 use Rattle.std.specs.Prelude.{ℕ, ◌+◌, ◌≤◌, ◌≡◌, List, length, get_or}
 use Rattle.std.proofs.lemmas.List.Edits.{sets}

@@ -1,4 +1,4 @@
--- What the stages of `report` promise each other.
+-- What the stages of `report` promise each other. Nothing here has to be believed: proofs/Reporting.antt shows that it comes to `Reports`.
 -- Assumes nothing.
 use Rattle.std.specs.Prelude.{ℕ, ◌*◌, ◌≤◌, ◌≡◌, List, ◌++◌, length, Option, Some, None, Result, Ok, Err, if◌then◌else◌}
 use Rattle.std.specs.Simd.{first_chunks}

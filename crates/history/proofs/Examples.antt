@@ -1,0 +1,191 @@
+-- Two histories beside buffers that are not empty, and the finds in which they end, accepted and alike: all is computed.
+-- Assumes nothing.
+use Prim.Native.Nat.{ℕ, ◌*◌}
+use mathlib.Core.Path.{◌≡◌, refl, sym, subst, ◌∙◌}
+use mathlib.Core.List.{List, [], ◌∷◌, ◌++◌, Permᴰ}
+use lib.ListN.{take, replicate}
+use Rattle.base.specs.Checks.{Reply, gives, refused}
+use Rattle.base.proofs.Outcomes.{some_outcome}
+use Rattle.declare.specs.Meaning.{meanings, holds, activated, fulfilled}
+use Rattle.declare.specs.Constraints.{constraints}
+use Rattle.eventlog.specs.declared.Store.{Store}
+use Rattle.eventlog.specs.Store.{Memory, memory, kept, sound, last_end}
+use Rattle.eventlog.specs.Calls.{declared_front}
+use Rattle.columns.specs.Log.{lines, log_checks, spelled}
+use Rattle.pruning.specs.declared.Settings.{Settings}
+use Rattle.pruning.specs.Question.{fulfilments, support}
+use Rattle.discovery.specs.Listing.{listed, replayed, layout}
+use Rattle.discovery.proofs.Orderless.{alike_just_permuted}
+use Rattle.history.specs.Ledger.{Call, open_for, add, read, find, Shown, only}
+use Rattle.history.specs.Histories.{Called, History, FindIn, ledger_of, Accepted, AlikeFinds, EqualFinds}
+use Rattle.history.proofs.Existence.{histories_exist}
+
+-- one activity declared, and so many traces kept
+abbrev pub keeping : ℕ → Store
+keeping traces = record { activities = 1; traces = traces }
+
+-- what all traces fulfil
+abbrev pub by_all : Settings
+by_all = record { threshold = 1000 }
+
+-- of the traces 0 and 0 0: the list as it is laid out, and the numbers
+abbrev pub four : List ℕ
+four =
+    1 ∷ 0 ∷ 0 ∷ 2 ∷
+    6 ∷ 0 ∷ 0 ∷ 2 ∷
+    7 ∷ 0 ∷ 0 ∷ 2 ∷
+    8 ∷ 0 ∷ 0 ∷ 2 ∷
+    []
+
+abbrev pub four_found : Reply
+four_found = gives (4 ∷ 8 ∷ 2 ∷ [])
+
+-- ## A history of open, add, a refused add and read, and an accepted find behind it
+
+abbrev pub start : Memory
+start = memory (keeping 0) (7 ∷ 7 ∷ 7 ∷ []) (9 ∷ 9 ∷ [])
+
+-- "     1  0" twice, each with its line feed
+abbrev pub a_log : List ℕ
+a_log =
+    32 ∷ 32 ∷ 32 ∷ 32 ∷ 32 ∷ 49 ∷ 32 ∷ 32 ∷ 48 ∷ 10 ∷
+    32 ∷ 32 ∷ 32 ∷ 32 ∷ 32 ∷ 49 ∷ 32 ∷ 32 ∷ 48 ∷ 10 ∷
+    []
+
+abbrev pub calls : List Call
+calls = open_for 1 ∷ add (0 ∷ []) ∷ add (0 ∷ 1 ∷ []) ∷ read a_log ∷ []
+
+abbrev pub shown : List Shown
+shown = only (gives (1 ∷ 0 ∷ [])) ∷ only (gives []) ∷ only (refused 6 2) ∷ only (gives (1 ∷ [])) ∷ []
+
+abbrev one_kept : Memory
+one_kept = memory (keeping 1) (0 ∷ 7 ∷ 7 ∷ []) (1 ∷ 9 ∷ [])
+
+abbrev pub last : Memory
+last = memory (keeping 2) (0 ∷ 0 ∷ 0 ∷ []) (1 ∷ 3 ∷ [])
+
+pub is_history : History start calls shown last
+unfolding sound last_end declared_front lines log_checks spelled
+is_history = (
+  start,
+  (keeping 0, some_outcome, refl, refl),
+  (
+    one_kept,
+    (some_outcome, refl),
+    (
+      one_kept,
+      (some_outcome, refl),
+      (last, (some_outcome, refl), refl),
+    ),
+  ),
+)
+
+-- a slice with room for the list and two numbers more
+abbrev pub list : List ℕ
+list = replicate 18 9
+
+abbrev pub found : Shown
+found = record { said = four_found; list = four ++ 9 ∷ 9 ∷ [] }
+
+pub finds : Called last (find by_all list) found last
+unfolding sound last_end kept constraints fulfilments support listed replayed layout fulfilled activated holds meanings
+finds = (some_outcome, refl)
+
+-- a slice one number too short
+pub too_short : Called last (find by_all (replicate 15 9)) (record { said = refused 10 4; list = replicate 15 9 }) last
+unfolding sound last_end kept constraints fulfilments support listed replayed layout fulfilled activated holds meanings
+too_short = (some_outcome, refl)
+
+abbrev pub one : FindIn
+one =
+    record {
+      start = start;
+      is_fresh = histories_exist.fresh 1 start.events start.ends refl;
+      before = calls;
+      shown_before = shown;
+      memory = last;
+      history = is_history;
+      settings = by_all;
+      list = list;
+      shown = found;
+      memory' = last;
+      called = finds;
+    }
+
+pub is_accepted : Accepted one
+is_accepted = (4 ∷ 8 ∷ 2 ∷ [], refl)
+
+-- ## Another: the traces in the other order, an empty one between them, other buffers and another slice
+
+abbrev pub start' : Memory
+start' = memory (keeping 0) (5 ∷ 5 ∷ 5 ∷ 5 ∷ []) (8 ∷ 8 ∷ 8 ∷ [])
+
+abbrev pub calls' : List Call
+calls' = add (0 ∷ 0 ∷ []) ∷ add [] ∷ add (0 ∷ []) ∷ []
+
+abbrev pub shown' : List Shown
+shown' = only (gives []) ∷ only (gives []) ∷ only (gives []) ∷ []
+
+abbrev pub last' : Memory
+last' = memory (keeping 3) (0 ∷ 0 ∷ 0 ∷ 5 ∷ []) (2 ∷ 2 ∷ 3 ∷ [])
+
+pub is_history' : History start' calls' shown' last'
+unfolding sound last_end declared_front
+is_history' = (
+  _,
+  (some_outcome, refl),
+  (
+    _,
+    (some_outcome, refl),
+    (last', (some_outcome, refl), refl),
+  ),
+)
+
+abbrev pub list' : List ℕ
+list' = replicate 17 3
+
+abbrev pub found' : Shown
+found' = record { said = four_found; list = four ++ 3 ∷ [] }
+
+pub finds' : Called last' (find by_all list') found' last'
+unfolding sound last_end kept constraints fulfilments support listed replayed layout fulfilled activated holds meanings
+finds' = (some_outcome, refl)
+
+abbrev pub other : FindIn
+other =
+    record {
+      start = start';
+      is_fresh = histories_exist.fresh 1 start'.events start'.ends refl;
+      before = calls';
+      shown_before = shown';
+      memory = last';
+      history = is_history';
+      settings = by_all;
+      list = list';
+      shown = found';
+      memory' = last';
+      called = finds';
+    }
+
+-- ## The two finds are alike, and give equal lists and numbers
+
+pub are_alike : AlikeFinds one other
+unfolding lines log_checks spelled
+are_alike =
+    record {
+      activities = refl;
+      settings = refl;
+      traces = (alike_just_permuted (ledger_of one).traces (ledger_of other).traces).1 ∣ Permᴰ.swap refl refl ∣₁;
+    }
+
+pub are_equal : EqualFinds one other
+are_equal = record { listed = 4; replayed = 8; all = 2; said = refl; said' = refl; lists = refl }
+
+-- of any two equal finds that list four constraints the numbers and the first sixteen of the lists are equal
+pub equal_fronts :
+    (f g : FindIn) → EqualFinds f g → f.shown.said ≡ four_found →
+    (g.shown.said ≡ four_found) × (take 16 f.shown.list ≡ take 16 g.shown.list)
+equal_fronts f g e four =
+    let same = sym e.said ∙ four in
+    let listed : e.listed ≡ 4 = cc in
+    (e.said' ∙ same, subst (λ n. take (4 * n) f.shown.list ≡ take (4 * n) g.shown.list) listed e.lists)
