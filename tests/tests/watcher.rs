@@ -299,12 +299,29 @@ fn damaged_lists() {
     assert!([0, 2, 13, 14].iter().all(|&answer| tally[answer] > 50), "{tally:?}");
 }
 
-/// A step on a record and slices that no start and steps made ends, and writes nothing beside what is lent to be written.
+/// What a step returns, whatever it is given: by the record's sizes, the activity, and the activities taken.
+fn returned(watch: &Watch, activity: u32) -> u32 {
+    let Watcher { activities, constraints, taken } = watch.watcher;
+    let sizes = activities <= 32 && constraints <= 256 && taken <= 4096 && 3 * constraints as usize == watch.constraints.get().len();
+    match () {
+        () if !sizes => 1,
+        () if activity >= activities => 6,
+        () if taken == 4096 => 7,
+        () => 0,
+    }
+}
+
+/// A step on a record and slices that no start and steps made ends; refused it writes nothing, and accepted nothing beside what is lent to be
+/// written.
 fn check_arbitrary(watch: &Watch, activity: u32) -> u32 {
     let mut after = watch.clone();
     let said = Archive.step(&mut after, activity);
     let number = said.map_or_else(|r| r.number, |()| 0);
-    assert!([0, 1, 6, 7].contains(&number), "a step {activity} on {watch:?} said {number}");
+    assert_eq!(number, returned(watch, activity), "a step {activity} on {watch:?}");
+    if number != 0 {
+        assert_eq!(after.difference(watch), None, "a refused step {activity} on {watch:?} left {after:?}");
+        return number;
+    }
     let mut expected = watch.clone();
     expected.watcher = after.watcher;
     expected.states.get_mut().copy_from_slice(after.states.get());

@@ -3,6 +3,7 @@
 use Prim.Native.Nat.{ℕ, ◌*◌}
 use mathlib.Core.Path.{◌≡◌, refl, sym, ap, subst, ◌∙◌}
 use mathlib.Core.List.{List, [], ◌∷◌, ◌++◌}
+use native.Mathlib.Omega.{arith}
 use lib.ListN.{take}
 use Rattle.base.specs.Checks.{Check, reply, when_passed, Outcome}
 use Rattle.declare.specs.Meaning.{meanings, holds, activated, fulfilled}
@@ -19,8 +20,8 @@ use Rattle.history.specs.Ledger.{find}
 use Rattle.history.specs.Histories.{AlikeFinds}
 use Rattle.history.proofs.Examples.{keeping, a_log, shown, found, by_all, four, start, calls, last, is_history, list, finds, one, start', calls', shown', last', is_history', list', found', finds', other, are_alike}
 use Rattle.capi.specs.Numbers.{number_of, answer_of, Replied, Returned}
-use Rattle.capi.specs.Histories.{ShownToC, HistoryFromC, FindFromC, all_in_numbers, EqualFromC}
-use Rattle.capi.proofs.Histories.{from_c, made_from_c}
+use Rattle.capi.specs.Histories.{ShownToC, to_c, HistoryFromC, FindFromC, in_numbers, all_in_numbers, InHistory, Never1FromC, RightFromC, EqualFromC}
+use Rattle.capi.proofs.Histories.{from_c, made_from_c, follows_ledger_from_c}
 
 -- ## Calls: whatever meets a contract has these numbers, and leaves this
 
@@ -123,3 +124,18 @@ equal_fronts_from_c f g e four =
     let same = sym e.answer ∙ four in
     let listed : e.listed ≡ 4 = cc in
     (e.answer' ∙ same, subst (λ n. take (4 * n) f.shown.list ≡ take (4 * n) g.shown.list) listed e.lists)
+
+-- ## What the claims' words say
+
+never_1_says : Never1FromC (to_c 2 [] [] ∷ []) × (Never1FromC (to_c 1 [] [] ∷ []) → ⊥)
+never_1_says = ((λ e. omega (arith, e), tt), λ n. n.0 refl)
+
+-- what a right find shows is what C is told
+right_told : (f : FindFromC) (r : RightFromC f) → f.shown ≡ in_numbers (find f.settings f.list) r.shown
+right_told f r = r.told
+
+history_told : (k : InHistory start calls told last) → told ≡ all_in_numbers calls k.shown
+history_told k = k.told
+
+some_history : (ss : List ShownToC) × (end : Memory) × HistoryFromC start calls ss end
+some_history = follows_ledger_from_c.history start calls

@@ -8,6 +8,7 @@ use lib.ListN.{length, take}
 use Rattle.base.specs.Checks.{Reply, gives, refused}
 use Rattle.eventlog.specs.declared.Space.{Space}
 use Rattle.eventlog.specs.Store.{Memory, space}
+use Rattle.eventlog.specs.Calls.{Opens}
 use Rattle.discovery.specs.Listing.{numbers}
 use Rattle.history.specs.Ledger.{Call, open_for, add, read, find, Shown, Ledger, first_ledger, next_ledger, shows}
 use Rattle.history.specs.Histories.{Called, Fresh, History, shows_all, ledger_shows, FindIn, question_of, Accepted, AlikeFinds}
@@ -100,6 +101,22 @@ ledger_never_1 lengths l [] = tt
 ledger_never_1 lengths l (c ∷ cs) =
     (never_1 (shows lengths l c).said (ledger_refused lengths l c), ledger_never_1 lengths (next_ledger lengths l c) cs)
 
+-- what an open leaves that returns 0 is fresh
+fresh_from_c : (m m' : Memory) (n : ℕ) (s : ShownToC) → CalledFromC m (open_for n) s m' → s.number ≡ 0 → Fresh m'
+fresh_from_c m m' n s called zero =
+    let k = is_call m (open_for n) s m' called in
+    let (store, opens, left, no_list) = k.called in
+    let given =
+    accepted_by k.shown.said (λ number detail e. ledger_refused (space m) (first_ledger n) (open_for n) number detail (sym opens.says ∙ e))
+    (sym (ap (λ s. s.number) k.told) ∙ zero) in
+    subst Fresh (sym left)
+    (record {
+      n = n;
+      there = m.store;
+      values = given.0;
+      opens = subst (λ said. Opens n m.store said store) given.1 opens;
+    })
+
 -- ## Finds
 
 module _ (f : FindFromC) where
@@ -153,6 +170,7 @@ find_alike f g zero zero' same =
 pub follows_ledger_from_c : FollowsLedgerFromC
 follows_ledger_from_c =
     record {
+      fresh = fresh_from_c;
       makes_history = in_history;
       agrees = follows;
       never_1 =

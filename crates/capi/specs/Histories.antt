@@ -88,6 +88,8 @@ pub record EqualFromC (f g : FindFromC) : Type 0 where
 
 -- All that is claimed of histories holds of the calls from C.
 pub record FollowsLedgerFromC : Type 0 where
+  -- what an open leaves that returns 0 is fresh
+  pub fresh : (m m' : Memory) (n : ℕ) (s : ShownToC) → CalledFromC m (open_for n) s m' → s.number ≡ 0 → Fresh m'
   -- they are histories, told in numbers
   pub makes_history : (m last : Memory) (cs : List Call) (ss : List ShownToC) → HistoryFromC m cs ss last → InHistory m cs ss last
   -- every number is the one that the ledger's words come to

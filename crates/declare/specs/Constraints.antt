@@ -1,6 +1,6 @@
 -- The constraints (document 01: the rules) over n activities: which there are, and their order.
 -- Assumes nothing.
-use Rattle.std.specs.Prelude.{ℕ, ◌≤◌, ◌<◌, ◌≡◌, ◌⊎◌, ◌↔◌, Bool, true, not, eqb, leb, ltb, if◌then◌else◌}
+use Rattle.std.specs.Prelude.{ℕ, ◌+◌, ◌*◌, ◌≤◌, ◌<◌, ◌≡◌, ◌⊎◌, ◌↔◌, Bool, true, not, eqb, leb, ltb, if◌then◌else◌}
 use mathlib.Core.List.{List, [], ◌∷◌, Mem, Pairwise}
 use Rattle.base.specs.Lists.{range, flat_map}
 use Rattle.declare.specs.declared.constraints.Constraint.{Constraint}
@@ -20,6 +20,10 @@ constraints n =
     flat_map (range 0 n) λ a.
     flat_map (range 0 n) λ b.
     if pairs template a b then constraint template a b ∷ [] else []
+
+-- no more than all of them, 14 n n - 6 n
+abbrev pub AtMostAll : ℕ → ℕ → Type 0
+AtMostAll n k = k + 6 * n ≤ 14 * n * n
 
 -- ## The same by membership and order
 

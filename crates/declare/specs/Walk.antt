@@ -1,7 +1,7 @@
 -- The walk over the constraints: from each the next one. Nothing here has to be believed: proofs/constraints/Walk.antt shows that it visits
 -- `constraints n`, each at its place.
 -- Assumes nothing.
-use Rattle.std.specs.Prelude.{ℕ, zero, suc, ◌+◌, ◌*◌, ◌≤◌, ◌&&◌, List, [], ◌∷◌, eqb, leb, ltb, if◌then◌else◌}
+use Rattle.std.specs.Prelude.{ℕ, zero, suc, ◌+◌, ◌&&◌, List, [], ◌∷◌, eqb, leb, ltb, if◌then◌else◌}
 use Rattle.declare.specs.declared.constraints.Constraint.{Constraint}
 use Rattle.declare.specs.declared.constraints.Constraints.{Constraints}
 use Rattle.declare.specs.Constraints.{constraint}
@@ -33,7 +33,3 @@ walk n c (suc more) = c ∷ walk n (next n c) more
 -- what the iterator over the constraints has left
 abbrev pub left : Constraints → List Constraint
 left all = walk all.activities (next all.activities all.last) all.more
-
--- no more than all constraints over n activities, 14 n n - 6 n: so far no number of them can wrap
-abbrev pub AtMostAll : ℕ → ℕ → Type 0
-AtMostAll n k = k + 6 * n ≤ 14 * n * n

@@ -7,9 +7,8 @@ use native.Mathlib.Omega.{arith}
 use lib.ListN.{length}
 use Rattle.base.proofs.Lists.{count_weaker, count_at_most}
 use Rattle.declare.specs.declared.constraints.Constraint.{Constraint}
-use Rattle.declare.specs.Constraints.{constraints, Exactly}
+use Rattle.declare.specs.Constraints.{constraints, AtMostAll, Exactly}
 use Rattle.declare.proofs.constraints.Members.{filter_exactly, constraints_number}
-use Rattle.declare.specs.Walk.{AtMostAll}
 use Rattle.pruning.specs.Question.{Question, survives, is_listed}
 use Rattle.discovery.specs.Listing.{listed, replayed, numbers, layout}
 use Rattle.pruning.proofs.Pruning.{listed_survives}

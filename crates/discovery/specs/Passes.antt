@@ -9,7 +9,7 @@ use Rattle.answers.specs.declared.Refusal.{Refusal}
 use Rattle.answers.specs.declared.Reason.TheVariants.{ListTooShort}
 use Rattle.declare.specs.declared.constraints.Constraint.{Constraint}
 use Rattle.pruning.specs.Question.{Question, survives, is_listed}
-use Rattle.declare.specs.Walk.{AtMostAll}
+use Rattle.declare.specs.Constraints.{AtMostAll}
 use Rattle.discovery.specs.declared.list.Tally.{Tally}
 use Rattle.discovery.specs.Listing.{numbers, layout}
 

@@ -4,7 +4,6 @@
 mod at_hand;
 mod list;
 
-ghost use Rattle.std.specs.Prelude.{◌≡◌};
 ghost use Rattle.eventlog.specs.Store.{lent};
 ghost use Rattle.discovery.specs.Calls.{Finds, find_said};
 

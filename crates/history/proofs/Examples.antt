@@ -1,7 +1,9 @@
 -- Two histories beside buffers that are not empty, and the finds in which they end, accepted and alike: all is computed.
 -- Assumes nothing.
 use Prim.Native.Nat.{ℕ, ◌*◌}
-use mathlib.Core.Path.{◌≡◌, refl, sym, subst, ◌∙◌}
+use mathlib.Core.Path.{◌≡◌, refl, sym, ap, subst, ◌∙◌}
+use mathlib.Core.Option.{Option, none, some}
+use native.Mathlib.Omega.{arith}
 use mathlib.Core.List.{List, [], ◌∷◌, ◌++◌, Permᴰ}
 use lib.ListN.{take, replicate}
 use Rattle.base.specs.Checks.{Reply, gives, refused}
@@ -17,7 +19,7 @@ use Rattle.pruning.specs.Question.{fulfilments, support}
 use Rattle.discovery.specs.Listing.{listed, replayed, layout}
 use Rattle.discovery.proofs.Orderless.{alike_just_permuted}
 use Rattle.history.specs.Ledger.{Call, open_for, add, read, find, Shown, only}
-use Rattle.history.specs.Histories.{Called, History, FindIn, ledger_of, Accepted, AlikeFinds, EqualFinds}
+use Rattle.history.specs.Histories.{Called, History, Never1, FindIn, FindAt, ledger_of, Accepted, AlikeFinds, EqualFinds}
 use Rattle.history.proofs.Existence.{histories_exist}
 
 -- one activity declared, and so many traces kept
@@ -189,3 +191,23 @@ equal_fronts f g e four =
     let same = sym e.said ∙ four in
     let listed : e.listed ≡ 4 = cc in
     (e.said' ∙ same, subst (λ n. take (4 * n) f.shown.list ≡ take (4 * n) g.shown.list) listed e.lists)
+
+-- ## What the claims' words say
+
+never_1_says : Never1 (only (refused 2 0) ∷ []) × (Never1 (only (refused 1 0) ∷ []) → ⊥)
+never_1_says = ((λ detail e. refused_apart e, tt), λ n. n.0 0 refl)
+  where
+    number : Reply → ℕ
+    number (gives values) = 0
+    number (refused n detail) = n
+
+    refused_apart : {detail : ℕ} → refused 2 0 ≡ refused 1 detail → ⊥
+    refused_apart e = omega (arith, ap number e)
+
+-- a find at a place is what was shown there
+shown_there : (a : FindAt Called start calls by_all list (shown ++ found ∷ [])) → a.found.shown ≡ found
+shown_there a = ap or_found (sym a.shown_there)
+  where
+    or_found : Option Shown → Shown
+    or_found none = found
+    or_found (some s) = s

@@ -23,8 +23,8 @@ use Rattle.automata.specs.declared.Moves.{Moves}
 use Rattle.declare.specs.declared.constraints.Constraint.{Constraint}
 use Rattle.automata.specs.Automata.{automaton, moves_of}
 use Rattle.declare.specs.Meaning.{activated, holds, fulfilled, verdict}
-use Rattle.declare.specs.Constraints.{Over}
-use Rattle.declare.proofs.constraints.Walk.{few_numbers}
+use Rattle.declare.specs.Constraints.{AtMostAll, Over}
+use Rattle.declare.proofs.constraints.Members.{few_numbers}
 use Rattle.automata.proofs.Following.{followed_constraint}
 use Rattle.eventlog.specs.Store.{Memory, kept, all_below, sound}
 use Rattle.eventlog.proofs.Laws.{sound_facts, kept_declared}
@@ -33,7 +33,6 @@ use Rattle.base.proofs.Lists.{all_filter, count_same, count_filter, count_at_mos
 use Rattle.pruning.specs.Question.{fulfilments}
 use Rattle.pruning.proofs.Counting.{some_passing}
 use Rattle.replay.specs.Replays.{is_fulfilled, replays_fulfilled}
-use Rattle.declare.specs.Walk.{AtMostAll}
 
 -- a chain over traces that makes a number of each by a closure and adds them up: where the closure computes 1 of a trace of length 1 or more
 -- that passes, and else 0, the sum fits, and is how many of length 1 or more pass

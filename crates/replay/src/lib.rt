@@ -1,12 +1,12 @@
-// Replay of a constraint over the store's traces. Who replays a constraint that pruning may have dropped has no way to a replayer but this
-// crate's `replay`, which requires that it is kept: an automaton is handed out sealed.
+// Replay of a constraint over the store's traces. Pruning and discovery rest on no crate with a replayer: they come to one through `replay`
+// alone, which requires that the query it is handed keeps the constraint. An automaton is handed out sealed.
 #![tactic(auto)]
 
 ghost use Rattle.std.specs.Prelude.{◌≡◌, true};
 ghost use Rattle.base.specs.Lists.{non_empty};
 ghost use Rattle.pruning.specs.Query.{asked_by};
 ghost use Rattle.replay.specs.Replays.{sealed, Kept, Replays, replays_fulfilled};
-ghost use Rattle.declare.specs.Walk.{AtMostAll};
+ghost use Rattle.declare.specs.Constraints.{AtMostAll};
 
 use automata::{Automaton, Moves};
 use declare::{Constraint, Verdict};

@@ -24,7 +24,7 @@ use Rattle.pruning.specs.Question.{Question, fulfilments}
 use Rattle.discovery.specs.Listing.{listed, replayed}
 use Rattle.discovery.specs.Calls.{find_checks}
 use Rattle.discovery.proofs.Listing.{listed_exactly, replayed_at_most, listed_within_replayed}
-use Rattle.declare.proofs.constraints.Walk.{few_numbers}
+use Rattle.declare.proofs.constraints.Members.{few_numbers}
 use Rattle.report.specs.declared.Arrays.{Arrays}
 use Rattle.report.specs.Print.{number_width, detail_width}
 use Rattle.report.specs.Report.{most_input, lent_space, lent_list, log_of, activities_set, settings_set}

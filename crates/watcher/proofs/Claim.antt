@@ -3,19 +3,20 @@
 use Prim.Native.Nat.{ℕ, suc}
 use native.Mathlib.Omega.{arith}
 use mathlib.Core.Path.{◌≡◌, refl, sym, ap, subst}
-use mathlib.Core.Bool.{true}
+use mathlib.Core.Bool.{true, ◌||◌}
 use mathlib.Core.List.{List, [], ◌∷◌, ◌++◌, map}
+use lib.Dec.{eqb}
 use lib.ListN.{length, drop, length-map}
 use lib.Seq.{drop_at}
 use Rattle.std.specs.List.{list_all}
 use Rattle.base.proofs.Bools.{and_left, and_right}
 use Rattle.base.specs.Checks.{Reply, refused}
-use Rattle.base.proofs.Checks.{none_fail_reply, both_left}
+use Rattle.base.proofs.Checks.{none_fail_reply, refused_each, both_left}
 use Rattle.base.proofs.Outcomes.{one_outcome, refused_keeps, accepted_passes, accepted_leaves}
 use Rattle.declare.specs.declared.constraints.Constraint.{Constraint}
 use Rattle.eventlog.specs.Store.{all_below}
 use Rattle.watcher.specs.Table.{state_after, outlook}
-use Rattle.watcher.specs.Calls.{given, proper, Slots, Watched, slots_after, start_checks, Starts, step_checks, taking, Made, Steps}
+use Rattle.watcher.specs.Calls.{given, proper, Slots, Watched, slots_after, start_checks, Starts, step_checks, taking, Made, checks_of_step, Steps}
 use Rattle.watcher.specs.Watching.{Tells, Seen, Watching, Untouched, RightStep, EachRight, Started, StatesTold}
 use Rattle.watcher.proofs.Outlooks.{exclude, right}
 use Rattle.watcher.proofs.Making.{proper_over, all_proper}
@@ -110,10 +111,15 @@ states_told =
 
 -- ## Of any memory
 
--- a refused step changes nothing
-pub refused_step_keeps :
-    {numbers : List ℕ} {m m' : Watched} {activity number detail : ℕ} → Steps numbers m activity (refused number detail) m' → m' ≡ m
-refused_step_keeps steps = steps.ends.2
+-- a refused step has number 1, 6 or 7 and detail 0, and changes nothing
+pub refused_step :
+    {numbers : List ℕ} {m m' : Watched} {activity number detail : ℕ} → Steps numbers m activity (refused number detail) m' →
+    (eqb number 1 || eqb number 6 || eqb number 7 ≡ true) × (detail ≡ 0) × (m' ≡ m)
+refused_step {numbers} {m} {activity = activity} {number = number} {detail = detail} steps =
+    let ends : ℕ → ℕ → Type 0 = λ number detail. (eqb number 1 || eqb number 6 || eqb number 7 ≡ true) × (detail ≡ 0) in
+    let end = refused_each ends (checks_of_step m.watcher (length numbers) activity) [] number detail
+    ((refl, refl), λ usable. ((refl, refl), λ declared. ((refl, refl), λ short. tt))) (sym steps.says) in
+    (end.0, end.1, steps.refused_keeps number detail refl)
 
 -- a watching has so many steps as are tried
 pub watching_length :

@@ -8,9 +8,9 @@ use lib.ListN.{length}
 use Rattle.base.specs.Checks.{Check, Reply, gives, refused, reply, when_passed}
 use Rattle.base.proofs.Checks.{none_fail, none_fail_reply, passed_giving}
 use Rattle.base.proofs.Outcomes.{outcome_accepted}
-use Rattle.watcher.specs.Calls.{Slots, Watched, watched_after, start_checks, step_checks, Made, Steps}
+use Rattle.watcher.specs.Calls.{Slots, Watched, watched_after, start_checks, step_checks, checks_of_step, Made, Steps}
 use Rattle.watcher.specs.Table.{table}
-use Rattle.watcher.specs.Loops.{each_of, turn_by, checks_of_step}
+use Rattle.watcher.specs.Loops.{each_of, turn_by}
 use Rattle.watcher.specs.Watching.{Seen, Watching, Started, WatchingsExist}
 use Rattle.watcher.proofs.Stepping.{one_taken, steps_refused, steps_taken}
 

@@ -10,9 +10,9 @@ use Rattle.base.specs.Checks.{gives, refused}
 use Rattle.eventlog.specs.Store.{all_below}
 use Rattle.watcher.specs.Calls.{given, Watched, watched_after, Starts, taking, Made}
 use Rattle.watcher.specs.Table.{outlook_in}
-use Rattle.watcher.specs.Watching.{Tells, Watching}
+use Rattle.watcher.specs.Watching.{Tells, Untouched, Seen, Watching, Started}
 use Rattle.watcher.proofs.Claim.{tells_each}
-use Rattle.watcher.proofs.Existence.{made_steps}
+use Rattle.watcher.proofs.Existence.{made_steps, watchings_exist}
 
 abbrev rules : List ℕ
 rules = 7 ∷ 0 ∷ 0 ∷ 14 ∷ 0 ∷ 1 ∷ 17 ∷ 1 ∷ 2 ∷ 1 ∷ 3 ∷ 3 ∷ 16 ∷ 4 ∷ 1 ∷ 8 ∷ 3 ∷ 3 ∷ 23 ∷ 3 ∷ 0 ∷ []
@@ -59,3 +59,18 @@ module _ (there : Watched) where
       × ((after (0 ∷ [])).slots.told ≡ 0 ∷ 2 ∷ 1 ∷ 2 ∷ 1 ∷ 2 ∷ 1 ∷ drop 7 there.slots.told)
   unfolding given outlook_in
   two_told = (refl, refl)
+
+  -- of seven constraints all but the first seven bytes are as they were
+  rest_untouched :
+      (left : Watched) → Untouched rules there.slots left.slots →
+      (drop 7 left.slots.states ≡ drop 7 there.slots.states) × (drop 7 left.slots.told ≡ drop 7 there.slots.told)
+  unfolding given
+  rest_untouched left u = (u.states, u.told)
+
+  -- and by the theorem that there are such
+  some_start : (s : Started) × (s.n ≡ 5) × (s.numbers ≡ rules) × (s.before ≡ there)
+  unfolding given
+  some_start = watchings_exist.start 5 rules there refl
+
+  some_watching : (seen : List Seen) × Watching rules there (0 ∷ 9 ∷ []) seen
+  some_watching = watchings_exist.watching rules there (0 ∷ 9 ∷ [])

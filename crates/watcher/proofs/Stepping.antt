@@ -11,13 +11,13 @@ use lib.ListN.{length, length-append}
 use Rattle.base.specs.Checks.{Reply, gives, refused, reply}
 use Rattle.base.proofs.Bools.{and_left, and_right, and_both}
 use Rattle.base.proofs.Lists.{all_append}
-use Rattle.base.proofs.Checks.{NoneFail, none_fail, refused_each}
+use Rattle.base.proofs.Checks.{NoneFail, none_fail, never_both}
 use Rattle.base.proofs.Outcomes.{outcome_refused, outcome_accepted}
 use Rattle.eventlog.specs.Store.{most_activities, longest_trace}
 use Rattle.watcher.specs.declared.Watcher.{Watcher}
-use Rattle.watcher.specs.Calls.{most_constraints, Slots, Watched, watcher_after, watched_after, step_checks, Made, EndsSo, Steps}
+use Rattle.watcher.specs.Calls.{most_constraints, Slots, Watched, watcher_after, watched_after, step_checks, Made, checks_of_step, usable, Steps}
 use Rattle.watcher.specs.Table.{table}
-use Rattle.watcher.specs.Loops.{each_of, turn_by, usable, checks_of_step}
+use Rattle.watcher.specs.Loops.{each_of, turn_by}
 use Rattle.watcher.proofs.Making.{not_many, none_cut, few_activities, stepping}
 
 -- ## What is known where every check passes
@@ -93,10 +93,8 @@ pub steps_refused :
     said ≡ reply (checks_of_step m.watcher (length numbers) activity) [] → said ≡ refused number detail → Steps numbers m activity said m
 steps_refused {numbers} {m} {activity} said e =
     record {
-      ends =
-          rw e
-          (refused_each (λ number detail. EndsSo m (refused number detail) m) (checks_of_step m.watcher (length numbers) activity) [] _ _
-          ((refl, refl, refl), λ usable_it. ((refl, refl, refl), λ declared. ((refl, refl, refl), λ short. tt))) (sym (rw e at said)));
+      says = said;
+      refused_keeps = λ number detail e. refl;
       made = λ n before trace made. outcome_refused (said ∙ made_reply n numbers before trace m made activity) e;
     }
 
@@ -110,7 +108,8 @@ pub steps_taken :
     Steps numbers m activity (gives []) (record { watcher = one_taken m.watcher; slots = l })
 steps_taken {numbers} {m} {activity} {l} said turned =
     record {
-      ends = refl;
+      says = said;
+      refused_keeps = λ number detail e. never_both e;
       made = λ n before trace made. outcome_accepted (said ∙ made_reply n numbers before trace m made activity) refl (next_is n before trace made);
     }
   where

@@ -1,6 +1,6 @@
 -- Start and step: what each says and leaves. The contracts cite these.
 -- Assumes nothing.
-use Rattle.std.specs.Prelude.{ℕ, ◌+◌, ◌*◌, ◌/◌, ◌%◌, ◌≤◌, ◌≡◌, Bool, true, not, ◌&&◌, ◌||◌, List, [], ◌∷◌, ◌++◌, map, eqb, leb, ltb, length, get_or, drop, Result}
+use Rattle.std.specs.Prelude.{ℕ, ◌+◌, ◌*◌, ◌/◌, ◌%◌, ◌≤◌, ◌≡◌, Bool, true, not, ◌&&◌, List, [], ◌∷◌, ◌++◌, map, eqb, leb, ltb, length, get_or, drop, Result}
 use Rattle.std.specs.List.{list_all}
 use Rattle.base.specs.Lists.{range}
 use Rattle.base.specs.Checks.{Check, ◌refuses◌with◌, Reply, gives, refused, reply, when_passed, Outcome}
@@ -9,7 +9,7 @@ use Rattle.answers.specs.declared.Refusal.{Refusal}
 use Rattle.answers.specs.Answers.{said_by, record_after}
 use Rattle.declare.specs.declared.constraints.Constraint.{Constraint}
 use Rattle.declare.specs.Constraints.{constraint, pairs}
-use Rattle.eventlog.specs.Store.{longest_trace, declarable, all_below}
+use Rattle.eventlog.specs.Store.{most_activities, longest_trace, declarable, all_below}
 use Rattle.watcher.specs.declared.Watcher.{Watcher}
 use Rattle.watcher.specs.Table.{state_after, outlook}
 
@@ -109,13 +109,19 @@ pub record Made (n : ℕ) (numbers : List ℕ) (before : Slots) (trace : List �
   pub short : length trace ≤ longest_trace
   pub is : m ≡ watched_after n numbers before trace
 
--- a refused step has number 1, 6 or 7 and detail 0, and leaves all as it was; an accepted one gives no values, and may leave any states
-abbrev pub EndsSo : Watched → Reply → Watched → Type 0
-EndsSo m (gives values) m' = values ≡ []
-EndsSo m (refused number detail) m' = ((eqb number 1 || eqb number 6 || eqb number 7) ≡ true) × (detail ≡ 0) × (m' ≡ m)
+-- the sizes that a start and steps leave, beside so many numbers
+abbrev pub usable : Watcher → ℕ → Bool
+usable w numbers =
+    leb w.activities most_activities && leb w.constraints most_constraints && eqb (3 * w.constraints) numbers && leb w.taken longest_trace
 
--- `step`. Of what no start and steps made nothing is promised but how it ends.
+-- the checks of step in any memory; where a start and steps made it, the first one passes, and the others are `step_checks`
+abbrev pub checks_of_step : Watcher → ℕ → ℕ → List Check
+checks_of_step w numbers activity = (not (usable w numbers) refuses 1 with 0) ∷ step_checks w.activities w.taken activity
+
+-- `step`. In any memory its checks decide what it says, and a refused one leaves all as it was. What an accepted one leaves is promised
+-- where a start and steps made the memory; else it may be anything.
 pub record Steps (numbers : List ℕ) (m : Watched) (activity : ℕ) (said : Reply) (m' : Watched) : Type 0 where
-  pub ends : EndsSo m said m'
+  pub says : said ≡ reply (checks_of_step m.watcher (length numbers) activity) []
+  pub refused_keeps : (number detail : ℕ) → said ≡ refused number detail → m' ≡ m
   pub made : (n : ℕ) (before : Slots) (trace : List ℕ) → Made n numbers before trace m
       → Outcome (step_checks n (length trace) activity) [] (watched_after n numbers before (trace ++ (activity ∷ []))) m said m'

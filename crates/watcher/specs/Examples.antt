@@ -1,13 +1,12 @@
--- Start's and step's refusals, how a step ends, and what is told of one constraint, from the definitions.
+-- Start's and step's refusals, and what is told of one constraint, from the definitions.
 -- Assumes nothing.
-use Rattle.std.specs.Prelude.{ℕ, ◌≡◌, refl, List, [], ◌∷◌, length, replicate}
-use Rattle.std.proofs.Common.{ap}
+use Rattle.std.specs.Prelude.{ℕ, ◌≡◌, refl, List, [], ◌∷◌, replicate}
 use Rattle.std.proofs.lemmas.Bool.{false≢true, true≢false}
-use Rattle.std.proofs.Math.Nat.{suc-ne-zero}
 use Rattle.base.specs.Checks.{gives, refused, reply}
 use Rattle.declare.specs.Constraints.{constraint}
 use Rattle.declare.specs.Meaning.{holds}
-use Rattle.watcher.specs.Calls.{given, Watched, start_checks, step_checks, taking, EndsSo}
+use Rattle.watcher.specs.declared.Watcher.{Watcher}
+use Rattle.watcher.specs.Calls.{given, start_checks, step_checks, taking, checks_of_step}
 use Rattle.watcher.specs.Watching.{Tells}
 
 -- 1 to 32 activities are declared, or it is 2
@@ -49,27 +48,20 @@ steps :
     × (taking 2 (0 ∷ []) 2 ≡ 0 ∷ [])
 steps = (refl, refl, refl, refl, refl)
 
--- how a step ends, whatever memory there was: an accepted one gives no values, and leaves any; a refused one is 1, 6 or 7, its detail 0,
--- and leaves no other
-ends : (m m' : Watched)
-    → EndsSo m (gives []) m'
-    × EndsSo m (refused 1 0) m
-    × EndsSo m (refused 6 0) m
-    × EndsSo m (refused 7 0) m
-    × (EndsSo m (gives (0 ∷ [])) m' → ⊥)
-    × (EndsSo m (refused 2 0) m → ⊥)
-    × (EndsSo m (refused 6 1) m → ⊥)
-    × ((m' ≡ m → ⊥) → EndsSo m (refused 6 0) m' → ⊥)
-ends m m' = (
-  refl,
-  (refl, refl, refl),
-  (refl, refl, refl),
-  (refl, refl, refl),
-  λ h. suc-ne-zero 0 (ap length h),
-  λ h. false≢true h.0,
-  λ h. suc-ne-zero 0 h.1,
-  λ other h. other h.2,
-)
+-- in any memory a step goes by the sizes of its record first, then by the activity, and then by the activities taken
+abbrev a_record : ℕ → ℕ → ℕ → Watcher
+a_record activities constraints taken = record { activities = activities; constraints = constraints; taken = taken }
+
+any_record :
+    (reply (checks_of_step (a_record 33 1 0) 3 0) [] ≡ refused 1 0)
+    × (reply (checks_of_step (a_record 2 257 0) 771 0) [] ≡ refused 1 0)
+    × (reply (checks_of_step (a_record 2 1 0) 6 0) [] ≡ refused 1 0)
+    × (reply (checks_of_step (a_record 2 1 4097) 3 2) [] ≡ refused 1 0)
+    × (reply (checks_of_step (a_record 2 1 4096) 3 2) [] ≡ refused 6 0)
+    × (reply (checks_of_step (a_record 2 1 4096) 3 1) [] ≡ refused 7 0)
+    × (reply (checks_of_step (a_record 0 0 0) 0 0) [] ≡ refused 6 0)
+    × (reply (checks_of_step (a_record 32 256 4095) 768 31) [] ≡ gives [])
+any_record = (refl, refl, refl, refl, refl, refl, refl, refl)
 
 -- of every constraint one of the four states is told: before the first step it does not hold that 0 occurs, and then it may
 abbrev existence_told : List ℕ → Type 0

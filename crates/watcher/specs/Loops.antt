@@ -1,11 +1,9 @@
 -- The watcher's loop over the constraints: what each turn writes. Nothing here has to be believed: proofs/Making.antt shows that all
 -- turns come to `Calls.slots_after`.
 -- Assumes nothing.
-use Rattle.std.specs.Prelude.{ℕ, zero, suc, ◌+◌, ◌*◌, ◌%◌, ◌<◌, ◌≤◌, ◌≡◌, Bool, not, ◌&&◌, List, ◌∷◌, eqb, leb, length, get_or, set}
-use Rattle.base.specs.Checks.{Check, ◌refuses◌with◌}
-use Rattle.eventlog.specs.Store.{most_activities, longest_trace}
+use Rattle.std.specs.Prelude.{ℕ, zero, suc, ◌+◌, ◌*◌, ◌%◌, ◌<◌, ◌≤◌, ◌≡◌, List, length, get_or, set}
 use Rattle.watcher.specs.declared.Watcher.{Watcher}
-use Rattle.watcher.specs.Calls.{Slots, most_constraints, step_checks}
+use Rattle.watcher.specs.Calls.{Slots}
 use Rattle.watcher.specs.Table.{place}
 
 -- so many turns, from the first one's number on
@@ -38,13 +36,3 @@ first_turn table numbers = turn_to table (λ at state. get_or numbers (3 * at) 0
 abbrev pub turn_by : List ℕ → List ℕ → ℕ → ℕ → Slots → Slots
 turn_by table numbers activity =
     turn_to table (λ at state. get_or table (place (get_or numbers (3 * at + 1) 0) (get_or numbers (3 * at + 2) 0) state activity) 0)
-
--- ## The checks of any memory
-
--- the sizes that a start leaves, beside so many numbers
-abbrev pub usable : Watcher → ℕ → Bool
-usable w numbers =
-    leb w.activities most_activities && leb w.constraints most_constraints && eqb (3 * w.constraints) numbers && leb w.taken longest_trace
-
-abbrev pub checks_of_step : Watcher → ℕ → ℕ → List Check
-checks_of_step w numbers activity = (not (usable w numbers) refuses 1 with 0) ∷ step_checks w.activities w.taken activity

@@ -10,9 +10,9 @@ ghost use Rattle.base.specs.Checks.{reply};
 ghost use Rattle.automata.specs.Automata.{letter};
 ghost use Rattle.declare.specs.Constraints.{constraint, pairs};
 ghost use Rattle.answers.specs.Answers.{done_said};
-ghost use Rattle.watcher.specs.Calls.{lent_slots, watched, given, proper, all_whole, start_checks, start_said, started, Starts, Steps};
+ghost use Rattle.watcher.specs.Calls.{lent_slots, watched, given, proper, all_whole, start_checks, start_said, started, usable, checks_of_step, Starts, Steps};
 ghost use Rattle.watcher.specs.Table.{table as table_of, place};
-ghost use Rattle.watcher.specs.Loops.{each_of, HasPlace, turn_to, Computes, first_turn, turn_by, usable, checks_of_step};
+ghost use Rattle.watcher.specs.Loops.{each_of, HasPlace, turn_to, Computes, first_turn, turn_by};
 
 use answers::{Reason, Refusal};
 

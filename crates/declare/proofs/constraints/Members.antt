@@ -10,7 +10,7 @@ use mathlib.Core.List.{List, [], ◌∷◌, ◌++◌, Memᴰ, Mem, Pairwise, Pai
 use native.Mathlib.Omega.{arith}
 use native.Mathlib.Decide.{ℕ_discrete}
 use native.Mathlib.Bridge.{le_prop}
-use native.Mathlib.Nat.{ℕ_set, mul_assoc, mul-suc, suc-mul, mul-add}
+use native.Mathlib.Nat.{ℕ_set, mul_assoc, mul-suc, suc-mul, mul-add, mul-le-mul}
 use borrow.Author.Tests.{le-leb, lt-leb, eq-eqb, ne_eqb, lt-ltb, le-ltb}
 use lib.Dec.{eqb, ltb}
 use lib.ListN.{length, length-append}
@@ -19,7 +19,7 @@ use Rattle.std.specs.List.{filter}
 use Rattle.base.specs.Lists.{count, range, flat_map}
 use Rattle.base.proofs.Lists.{filter_member, member_filter, filter_sublist, count_cons, not_counted, flat_map_member, member_flat_map, flat_map_append, range_member, member_range, range_length}
 use Rattle.declare.specs.declared.constraints.Constraint.{Constraint}
-use Rattle.declare.specs.Constraints.{constraint, pairs, constraints, Over, Precedes, Exactly}
+use Rattle.declare.specs.Constraints.{constraint, pairs, constraints, AtMostAll, Over, Precedes, Exactly}
 
 -- the constraints on a and b, on a and any b, and on any a and b
 abbrev cell : ℕ → ℕ → ℕ → List Constraint
@@ -340,3 +340,7 @@ module _ (n : ℕ) where
       flat_map_append (grid n) (range 1 8) (range 9 16) ∙ ap (λ l. flat_map (range 1 8) (grid n) ++ l) (flat_map_append (grid n) (range 9 4) (range 13 12)) in
       rw (mul_assoc 14 n n)
       (omega (arith, ap length split ∙ length-append (flat_map (range 1 8) (grid n)) _, length-append (flat_map (range 9 4) (grid n)) (flat_map (range 13 12) (grid n))))
+
+-- all constraints over 32 activities are few
+pub few_numbers : (n k : ℕ) → n ≤ 32 → AtMostAll n k → k ≤ 14336
+few_numbers n k few all = let fewer : 14 * n ≤ 448 = omega arith in omega (arith, all, mul-le-mul fewer few)

@@ -1,6 +1,6 @@
 -- The walk over the constraints visits `constraints n`, each at its place.
 -- Assumes nothing.
-use Prim.Native.Nat.{ℕ, zero, suc, ◌+◌, ◌-◌, ◌*◌, ◌≤◌, ◌<◌}
+use Prim.Native.Nat.{ℕ, zero, suc, ◌+◌, ◌-◌, ◌≤◌, ◌<◌}
 use mathlib.Core.Path.{◌≡◌, refl, sym, ap, ap₂, subst, ◌∙◌}
 use mathlib.Core.Logic.{◌⊎◌, inl, inr}
 use mathlib.Core.Bool.{true, false, not, ◌&&◌}
@@ -9,7 +9,6 @@ use mathlib.Core.List.Pairwise
 use mathlib.Core.List.{List, ◌∷◌, ◌++◌, Memᴰ, mem-cons_self, Pairwise, Pairwise-append, rel_of_Pairwise-cons}
 use native.Mathlib.Numerals.{add-one, unary_clauses}
 use native.Mathlib.Omega.{arith}
-use native.Mathlib.Nat.{mul-le-mul}
 use native.Mathlib.Decide.{ℕ_discrete}
 use borrow.Author.Tests.{le-leb, le-ltb, eq-eqb, ne_eqb, lt-ltb, eqb-true, eqb-false, ltb-true, ltb-false, leb-true, leb-false, not-true}
 use lib.Dec.{eqb, leb, ltb}
@@ -18,7 +17,7 @@ use lib.Seq.{drop-cons, drop-length, split_at}
 use Rattle.base.proofs.Bools.{either, and_left, and_right}
 use Rattle.declare.specs.declared.constraints.Constraint.{Constraint}
 use Rattle.declare.specs.Constraints.{constraint, pairs, constraints, Over, Precedes}
-use Rattle.declare.specs.Walk.{first_of, partner, next, walk, AtMostAll}
+use Rattle.declare.specs.Walk.{first_of, partner, next, walk}
 use Rattle.declare.proofs.constraints.Members.{constraints_over, over_constraints, precedes_prop, constraints_ordered, never_both}
 
 -- ## What a template takes beside a, by the three ranges of templates
@@ -297,7 +296,3 @@ walk_all (suc n) = walk_rest (suc n) 0 (length (constraints (suc n))) (first_of 
 
 pub walk_behind : (n : ℕ) → n < 256 → walk n (next n (constraint 0 255 255)) (length (constraints n)) ≡ constraints n
 walk_behind n small = rw (first_behind n small) (walk_all n)
-
--- all constraints over 32 activities are few
-pub few_numbers : (n k : ℕ) → n ≤ 32 → AtMostAll n k → k ≤ 14336
-few_numbers n k few all = let fewer : 14 * n ≤ 448 = omega arith in omega (arith, all, mul-le-mul fewer few)
