@@ -1,14 +1,17 @@
 -- What is listed and what is replayed, by membership and order, and how many there can be.
 -- Assumes nothing.
-use Prim.Native.Nat.{◌*◌, ◌≤◌}
+use Prim.Native.Nat.{ℕ, ◌*◌, ◌≤◌}
 use mathlib.Core.Path.{◌≡◌, refl}
+use mathlib.Core.Bool.{true}
 use mathlib.Core.List.{List, [], ◌∷◌}
 use native.Mathlib.Omega.{arith}
 use lib.ListN.{length}
 use Rattle.base.proofs.Lists.{count_weaker, count_at_most}
 use Rattle.declare.specs.declared.constraints.Constraint.{Constraint}
 use Rattle.declare.specs.Constraints.{constraints, AtMostAll, Exactly}
-use Rattle.declare.proofs.constraints.Members.{filter_exactly, constraints_number}
+use Rattle.declare.proofs.constraints.Members.{filter_exactly, constraints_number, few_numbers}
+use Rattle.eventlog.specs.Store.{Memory, sound}
+use Rattle.eventlog.proofs.Laws.{sound_facts}
 use Rattle.pruning.specs.Question.{Question, survives, is_listed}
 use Rattle.discovery.specs.Listing.{listed, replayed, numbers, layout}
 use Rattle.pruning.proofs.Pruning.{listed_survives}
@@ -37,3 +40,7 @@ pub layout_length : (q : Question) (cs : List Constraint) → length (layout q c
 unfolding layout
 layout_length q [] = refl
 layout_length q (c ∷ cs) = omega (arith, layout_length q cs)
+
+-- as many constraints as there are at most, listed or replayed, are few
+pub few_constraints : (m : Memory) (k : ℕ) → sound m ≡ true → AtMostAll m.store.activities k → k ≤ 14336
+few_constraints m k h = few_numbers m.store.activities k (sound_facts m h).few_activities

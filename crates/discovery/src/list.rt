@@ -56,7 +56,7 @@ fn consider(
 {
     let replayed = replay(query, c, automaton, tally.replayed);
     let tally = Tally {
-        replayed: replayed.replayed,
+        replayed: replayed.replayed as u32,
         ..tally
     };
     if !query.meets(replayed.fulfilled) {

@@ -18,22 +18,7 @@ use Rattle.base.proofs.Bools.{Expression, implied, fails_too, either}
 use Rattle.base.proofs.Lists.{count_weaker, all_range}
 use Rattle.declare.specs.declared.constraints.Constraint.{Constraint}
 use Rattle.pruning.specs.declared.Class.{Class}
-use Rattle.pruning.specs.declared.Class.TheVariants.{WithA, All, Either, Both}
-use Rattle.pruning.specs.Question.{class_of, counts_for, fulfilments, support, Question, always, meets, survives_in, survives, is_listed}
-
--- whether a trace counts for a class, by whether a and b occur in it
-abbrev counts_when : Class → Bool → Bool → Bool
-counts_when WithA a_occurs b_occurs = a_occurs
-counts_when All a_occurs b_occurs = true
-counts_when Either a_occurs b_occurs = a_occurs || b_occurs
-counts_when Both a_occurs b_occurs = a_occurs && b_occurs
-
-counts_occurring :
-    (class : Class) (a b : ℕ) (trace : List ℕ) → counts_when class (occurs a trace) (occurs b trace) ≡ counts_for class a b trace
-counts_occurring WithA a b trace = refl
-counts_occurring All a b trace = refl
-counts_occurring Either a b trace = refl
-counts_occurring Both a b trace = refl
+use Rattle.pruning.specs.Question.{class_of, counts_when, counts_for, fulfilments, support, Question, always, meets, survives_in, survives, is_listed}
 
 -- where the template is activated and holds, the trace counts for its class
 abbrev counted : ℕ → Expression 3
@@ -60,7 +45,7 @@ counted_always t a b trace =
 -- a trace that is fulfilled for a constraint counts for its class
 pub fulfilled_counts : (t a b : ℕ) (trace : List ℕ) → fulfilled t a b trace ≡ true → counts_for (class_of t) a b trace ≡ true
 unfolding fulfilled activated
-fulfilled_counts t a b trace h = rw (← counts_occurring (class_of t) a b trace) (implied _ _ (counted_always t a b trace) h)
+fulfilled_counts t a b trace h = implied _ _ (counted_always t a b trace) h
 
 pub fulfilments_within_support : (traces : List (List ℕ)) (c : Constraint) → fulfilments traces c ≤ support (class_of c.template) traces c
 unfolding fulfilments support

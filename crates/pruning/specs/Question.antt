@@ -53,11 +53,14 @@ class_of template =
     else Both
 
 -- a trace counts for a class: it has a, whatever it is, it has a or b, it has both
+abbrev pub counts_when : Class → Bool → Bool → Bool
+counts_when WithA a_occurs b_occurs = a_occurs
+counts_when All a_occurs b_occurs = true
+counts_when Either a_occurs b_occurs = a_occurs || b_occurs
+counts_when Both a_occurs b_occurs = a_occurs && b_occurs
+
 abbrev pub counts_for : Class → ℕ → ℕ → List ℕ → Bool
-counts_for WithA a b trace = occurs a trace
-counts_for All a b trace = true
-counts_for Either a b trace = occurs a trace || occurs b trace
-counts_for Both a b trace = occurs a trace && occurs b trace
+counts_for class a b trace = counts_when class (occurs a trace) (occurs b trace)
 
 -- the traces that count for a class, by a constraint's activities
 unfoldable pub support : Class → List (List ℕ) → Constraint → ℕ

@@ -93,7 +93,7 @@ impl<'a> Query<'a> {
     ghost use Rattle.pruning.specs.Query.{asked_by};
 
     pub fn new(sound: SoundStore<'a>, settings: Settings) -> Query<'a>
-        ensures { asked_by result ≡ asked (memory_of sound.entry) settings }
+        ensures { (memory_of result.sound ≡ memory_of sound.entry) × (result.settings ≡ settings) }
     {
         Query {
             sound,

@@ -1,4 +1,4 @@
--- Replay over the kept traces counts those that are fulfilled, and no number of constraints wraps.
+-- Replay over the kept traces counts those that are fulfilled.
 -- Assumes nothing.
 use Prim.Native.Nat.{ℕ, ◌≤◌, ◌+◌, ◌<◌}
 use mathlib.Core.Path.{◌≡◌, refl, sym, ap, ◌∙◌}
@@ -23,8 +23,7 @@ use Rattle.automata.specs.declared.Moves.{Moves}
 use Rattle.declare.specs.declared.constraints.Constraint.{Constraint}
 use Rattle.automata.specs.Automata.{automaton, moves_of}
 use Rattle.declare.specs.Meaning.{activated, holds, fulfilled, verdict}
-use Rattle.declare.specs.Constraints.{AtMostAll, Over}
-use Rattle.declare.proofs.constraints.Members.{few_numbers}
+use Rattle.declare.specs.Constraints.{Over}
 use Rattle.automata.proofs.Following.{followed_constraint}
 use Rattle.eventlog.specs.Store.{Memory, kept, all_below, sound}
 use Rattle.eventlog.proofs.Laws.{sound_facts, kept_declared}
@@ -80,7 +79,3 @@ replay_counts m c h over =
     (λ trace declared.
     ap is_fulfilled (followed_constraint n c over trace declared (sound_facts m h).few_activities)
     ∙ verdict_fulfilled c.template c.a c.b trace)
-
--- as many constraints as there are at most, listed or replayed, are few
-pub few_constraints : (m : Memory) (k : ℕ) → sound m ≡ true → AtMostAll m.store.activities k → k ≤ 14336
-few_constraints m k h = few_numbers m.store.activities k (sound_facts m h).few_activities

@@ -6,7 +6,6 @@ ghost use Rattle.std.specs.Prelude.{◌≡◌, true};
 ghost use Rattle.base.specs.Lists.{non_empty};
 ghost use Rattle.pruning.specs.Query.{asked_by};
 ghost use Rattle.replay.specs.Replays.{sealed, Kept, Replays, replays_fulfilled};
-ghost use Rattle.declare.specs.Constraints.{AtMostAll};
 
 use automata::{Automaton, Moves};
 use declare::{Constraint, Verdict};
@@ -28,11 +27,12 @@ impl SealedAutomaton {
     }
 }
 
-// A constraint's fulfilled traces, and how many constraints have been replayed, this one counted.
+// A constraint's fulfilled traces, and how many constraints have been replayed, this one counted: that has 64 bits, in which one more than
+// any 32-bit number fits.
 #[derive(Clone, Copy, Debug, PartialEq, Eq)]
 pub struct Replayed {
     pub fulfilled: u32,
-    pub replayed: u32,
+    pub replayed: u64,
 }
 
 // Whether a trace is fulfilled, by a constraint's moves. An empty trace is handed to no replayer.
@@ -43,11 +43,10 @@ fn is_fulfilled(moves: &Moves, trace: &[u8]) -> bool
     moves.verdict(trace) == Verdict::Fulfilled
 }
 
-// Replays a constraint over the store, by its template's automaton. Only what pruning keeps may be replayed: the first clause. The moves are
-// made once for all its traces.
+// Replays a constraint over the store, by its template's automaton. Only what pruning keeps may be replayed. The moves are made once for all
+// its traces.
 pub fn replay(query: Query, c: Constraint, automaton: SealedAutomaton, replayed: u32) -> Replayed
-    requires kept { Kept (asked_by query) automaton c }
-    requires at_most_all { AtMostAll query.sound.store.activities replayed }
+    requires { Kept (asked_by query) automaton c }
     ensures { Replays (asked_by query.entry) c replayed result }
 {
     let moves = automaton.automaton.moves(c.a, c.b);
@@ -58,6 +57,6 @@ pub fn replay(query: Query, c: Constraint, automaton: SealedAutomaton, replayed:
         .sum();
     Replayed {
         fulfilled,
-        replayed: replayed + 1,
+        replayed: u64::from(replayed) + 1,
     }
 }

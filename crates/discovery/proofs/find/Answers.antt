@@ -1,5 +1,5 @@
 -- The list is that of the pass over the constraints, where every check passed.
-use Rattle.std.proofs.Common.{length, sym, ap, subst, ◌∙◌, ◌≡◌, rules}
+use Rattle.std.proofs.Common.{length, sym, ap, ap₂, subst, ◌∙◌, ◌≡◌, rules}
 use Rattle.declare.specs.Constraints.{constraints}
 use Rattle.eventlog.specs.Store.{lent}
 use Rattle.eventlog.specs.SoundStore.{memory_of}
@@ -14,7 +14,7 @@ returns c =
     let m = lent c.args.store c.args.events.now c.args.ends.now in
     let list = c.args.list.now in
     let memory : memory_of c.in_ok-sound.sound ≡ m = search rules in
-    let asks = c.new-query.ensures ∙ ap (λ m. asked m c.args.settings) memory in
+    let asks = ap₂ asked (c.new-query.ensures.0 ∙ memory) c.new-query.ensures.1 in
     finds_listed m c.args.settings
     (rw memory at c.in_ok-sound.sound.is_sound)
     (sym c.in_range.ensures ∙ c.if-not-in_range.false)
