@@ -1,1 +1,3 @@
 pub mod Automata
+pub mod Outlook
+pub mod Ahead

@@ -13,8 +13,9 @@ use lib.Seq.{slice}
 use borrow.Author.Tests.{lt-ltb, le-ltb, eq-eqb, ne_eqb, leb-true, leb-false, eqb-true, eqb-false}
 use Rattle.std.specs.Prelude.{Result, Ok, Err, IsOk, if◌then◌else◌}
 use Rattle.base.specs.Checks.{Check, ◌refuses◌with◌, Reply, gives, refused, reply}
+use Rattle.declare.specs.Traces.{longest_trace, all_below}
 use Rattle.eventlog.specs.declared.Room.{Room}
-use Rattle.eventlog.specs.Store.{longest_trace, total, all_below, after_traces, full}
+use Rattle.eventlog.specs.Store.{total, after_traces, full}
 use Rattle.columns.specs.declared.Progress.{Progress}
 use Rattle.fields.specs.Field.{line_feed, well_formed, value}
 use Rattle.columns.specs.Log.{Line, line_of, lines_within, lines, Before, nothing_read, with_line, last?, length_of, extend_last, line_checks, log_checks_from, spelled_from}

@@ -19,10 +19,11 @@ use Rattle.base.specs.Lists.{non_empty, flat_map}
 use Rattle.base.proofs.Bools.{either, clash, and_left, and_right, and_both}
 use Rattle.base.proofs.Checks.{NoneFail, none_fail, reply_after}
 use Rattle.base.proofs.Lists.{take_drop, all_last}
+use Rattle.declare.specs.Traces.{longest_trace, all_below}
 use Rattle.fields.specs.Field.{line_feed, well_formed, value, spell}
 use Rattle.fields.proofs.Fields.{length_spell, spelled_is_field, field_is_spelled, value_bound}
 use Rattle.eventlog.specs.declared.Room.{Room}
-use Rattle.eventlog.specs.Store.{most_traces, longest_trace, Memory, total, all_below, sound, room, after_traces, full}
+use Rattle.eventlog.specs.Store.{most_traces, Memory, total, sound, room, after_traces, full}
 use Rattle.eventlog.proofs.Traces.{Acceptable, total_last}
 use Rattle.columns.specs.Log.{Line, line_of, lines, last?, number_falls, same_trace, extend_last, Before, nothing_read, with_line, length_of, line_checks, log_checks_from, log_checks, spelled_from, spelled}
 use Rattle.columns.specs.Layout.{line_text, Numbered, traces_of, written, WritableAfter, Writable, numbered_from, laid_out_after, laid_out, storable, HasRoom, MeansLayout}

@@ -6,8 +6,9 @@ use Rattle.std.proofs.Math.Option.{Option, none, some}
 use Rattle.std.specs.List.{list_all}
 use Rattle.base.specs.Checks.{gives, reply}
 use Rattle.base.specs.Lists.{non_empty, flat_map}
+use Rattle.declare.specs.Traces.{longest_trace, all_below}
 use Rattle.eventlog.specs.declared.Room.{Room}
-use Rattle.eventlog.specs.Store.{most_traces, longest_trace, Memory, total, all_below, sound, room}
+use Rattle.eventlog.specs.Store.{most_traces, Memory, total, sound, room}
 use Rattle.fields.specs.Field.{line_feed, spell}
 use Rattle.columns.specs.Log.{Line, lines, number_falls, log_checks, spelled}
 use Rattle.columns.specs.Calls.{checks_of_read}

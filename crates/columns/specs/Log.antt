@@ -4,8 +4,9 @@ use Rattle.std.specs.Prelude.{ℕ, zero, suc, ◌+◌, Bool, false, not, ◌&&�
 use Rattle.std.proofs.Math.Option.{Option, none, some}
 use Rattle.std.proofs.Math.Seq.{slice}
 use Rattle.base.specs.Checks.{Check, ◌refuses◌with◌}
+use Rattle.declare.specs.Traces.{longest_trace}
 use Rattle.eventlog.specs.declared.Room.{Room}
-use Rattle.eventlog.specs.Store.{longest_trace, after_traces, full, lacks}
+use Rattle.eventlog.specs.Store.{after_traces, full, lacks}
 use Rattle.fields.specs.Field.{line_feed, well_formed, value}
 
 -- A line of a log: whether it is laid out as one, its trace number (document 01: run number) and its activity.

@@ -5,8 +5,9 @@ use Rattle.std.specs.Prelude.{ℕ, ◌+◌, ◌-◌, ◌*◌, ◌≤◌, List, [
 use Rattle.std.specs.Result.{result_and}
 use Rattle.answers.specs.declared.Reason.{Reason}
 use Rattle.answers.specs.declared.Refusal.{Refusal}
+use Rattle.declare.specs.Traces.{longest_trace}
 use Rattle.eventlog.specs.declared.Room.{Room}
-use Rattle.eventlog.specs.Store.{most_traces, longest_trace, Memory, lent, with_kept, full}
+use Rattle.eventlog.specs.Store.{most_traces, Memory, lent, with_kept, full}
 use Rattle.columns.specs.declared.Entry.{Entry}
 use Rattle.columns.specs.declared.Progress.{Progress}
 use Rattle.columns.specs.Log.{Line}

@@ -1,11 +1,12 @@
 // How far a log is read, in the room that it is read into.
 ghost use Rattle.std.specs.Prelude.{◌≤◌};
-ghost use Rattle.eventlog.specs.Store.{most_activities};
+ghost use Rattle.declare.specs.Traces.{most_activities};
 ghost use Rattle.columns.specs.Survey.{Bounded};
 
 use crate::{Entry, Progress};
 use answers::Reason;
-use eventlog::{LONGEST_TRACE, Room, SoundStore};
+use declare::LONGEST_TRACE;
+use eventlog::{Room, SoundStore};
 
 // The room that there was before the first line, and the numbers of the lines so far, which stay in its bounds.
 #[derive(Clone, Copy)]

@@ -1,3 +1,4 @@
+pub mod Traces
 pub mod Meaning
 pub mod Constraints
 pub mod Walk

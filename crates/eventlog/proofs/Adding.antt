@@ -11,7 +11,8 @@ use lib.ListN.{length}
 use Rattle.base.proofs.Bools.{neither}
 use Rattle.base.specs.Checks.{gives, reply}
 use Rattle.base.proofs.Checks.{NoneFail, none_fail}
-use Rattle.eventlog.specs.Store.{most_traces, Memory, sound, last_end, all_below}
+use Rattle.declare.specs.Traces.{all_below}
+use Rattle.eventlog.specs.Store.{most_traces, Memory, sound, last_end}
 use Rattle.eventlog.specs.Calls.{checks_of_add}
 use Rattle.eventlog.proofs.Laws.{Addable, sound_facts, last_end_bound}
 

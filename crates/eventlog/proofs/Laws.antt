@@ -14,8 +14,9 @@ use Rattle.std.specs.List.{list_all}
 use Rattle.base.proofs.Lists.{all_append, all_take, all_drop}
 use Rattle.base.proofs.Bools.{and_left, and_right, and_both}
 use Rattle.base.proofs.Ranges.{range_facts}
-use Rattle.eventlog.specs.Store.{most_activities, most_traces, longest_trace, declarable, Memory, memory, cut, kept, total}
-use Rattle.eventlog.specs.Store.{last_from, last_end, rising, all_below, sound, room, after_traces}
+use Rattle.declare.specs.Traces.{most_activities, longest_trace, declarable, all_below}
+use Rattle.eventlog.specs.Store.{most_traces, Memory, memory, cut, kept, total}
+use Rattle.eventlog.specs.Store.{last_from, last_end, rising, sound, room, after_traces}
 use Rattle.eventlog.specs.Calls.{empty, with_trace}
 
 -- ## A sound memory, by its facts

@@ -7,8 +7,9 @@ use mathlib.Core.List.{List, [], ◌∷◌, ◌++◌, append_assoc, append-nil}
 use native.Mathlib.Omega.{arith}
 use native.Mathlib.Nat.{add-zero}
 use lib.ListN.{length}
+use Rattle.declare.specs.Traces.{longest_trace, all_below}
 use Rattle.eventlog.specs.declared.Room.{Room}
-use Rattle.eventlog.specs.Store.{Memory, most_traces, longest_trace, total, all_below, last_end, sound, kept, room, after_traces}
+use Rattle.eventlog.specs.Store.{Memory, most_traces, total, last_end, sound, kept, room, after_traces}
 use Rattle.eventlog.specs.Calls.{with_trace, with_traces}
 use Rattle.eventlog.proofs.Laws.{total_append, Addable, sound_added, kept_added, room_added}
 

@@ -9,7 +9,8 @@ use borrow.Author.Tests.{le-leb, lt-leb, le-ltb, ltb-false, not-true}
 use lib.Dec.{leb, ltb}
 use lib.ListN.{length, get_or, drop}
 use lib.Seq.{drop-cons}
-use Rattle.eventlog.specs.Store.{longest_trace, last_from, rising, all_below}
+use Rattle.declare.specs.Traces.{longest_trace, all_below}
+use Rattle.eventlog.specs.Store.{last_from, rising}
 use Rattle.eventlog.specs.Calls.{declared_front}
 use Rattle.base.proofs.Lists.{find_index_first, position_by_index}
 use Rattle.std.specs.List.{position}

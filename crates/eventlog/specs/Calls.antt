@@ -6,9 +6,10 @@ use Rattle.base.specs.Lists.{find_index}
 use Rattle.base.specs.Checks.{Check, ◌refuses◌with◌, Reply, Outcome}
 use Rattle.answers.specs.Answers.{said_by, record_after}
 use Rattle.answers.specs.declared.Refusal.{Refusal}
+use Rattle.declare.specs.Traces.{longest_trace, declarable, all_below}
 use Rattle.eventlog.specs.declared.Room.{Room}
 use Rattle.eventlog.specs.declared.Store.{Store}
-use Rattle.eventlog.specs.Store.{longest_trace, declarable, Memory, last_end, sound, all_below, room, full, lacks}
+use Rattle.eventlog.specs.Store.{Memory, last_end, sound, room, full, lacks}
 
 abbrev pub unsound : Memory → Check
 unsound m = not (sound m) refuses 1 with 0

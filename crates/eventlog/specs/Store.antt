@@ -2,20 +2,13 @@
 -- Assumes nothing.
 use Rattle.std.specs.Prelude.{ℕ, ◌+◌, Bool, true, ◌&&◌, ◌||◌, List, [], ◌∷◌, eqb, leb, ltb, length, take}
 use Rattle.std.proofs.Math.Seq.{slice}
-use Rattle.base.specs.Logic.{in_range}
-use Rattle.std.specs.List.{list_all}
+use Rattle.declare.specs.Traces.{longest_trace, declarable, all_below}
 use Rattle.eventlog.specs.declared.Space.{Space}
 use Rattle.eventlog.specs.declared.Room.{Room}
 use Rattle.eventlog.specs.declared.Store.{Store}
 
-abbrev pub most_activities : ℕ
-most_activities = 32
-
 abbrev pub most_traces : ℕ
 most_traces = 4095
-
-abbrev pub longest_trace : ℕ
-longest_trace = 4096
 
 -- The record beside the two lent buffers: the events (document 01: kept steps), trace after trace, and the ends of the traces.
 pub record Memory : Type 0 where
@@ -63,13 +56,6 @@ last_end m = last_kept m.store.traces m.ends
 abbrev pub rising : ℕ → List ℕ → Bool
 rising last [] = true
 rising last (end ∷ ends) = leb last end && (leb end (last + longest_trace) && rising end ends)
-
-abbrev pub all_below : ℕ → List ℕ → Bool
-all_below n xs = list_all (λ x. ltb x n) xs
-
--- N is 1 to 32
-abbrev pub declarable : ℕ → Bool
-declarable n = in_range 1 n most_activities
 
 -- N is 1 to 32; the run count is at most 4095 and the ends slice's length; no end is below the one before it (0 before the first) or
 -- more than 4096 above it; the last end is at most the step buffer's length; every kept step is below N

@@ -8,10 +8,12 @@ ghost use Rattle.std.specs.Prelude.{◌≡◌, ◌≤◌, [], ◌+◌, not, ltb,
 ghost use Rattle.std.proofs.lemmas.List.Edits.{sets};
 ghost use Rattle.base.specs.Checks.{gives, reply};
 ghost use Rattle.answers.specs.Answers.{done_said, said_by};
+ghost use Rattle.declare.specs.Traces.{all_below};
 ghost use Rattle.eventlog.specs.Calls.{Adds, checks_of_add, open_said, opened, Opens, with_trace};
-ghost use Rattle.eventlog.specs.Store.{lent, last_end as last_end_of, last_kept, rising, all_below, sound, room, declarable as declarable_test, full as full_test};
+ghost use Rattle.eventlog.specs.Store.{lent, last_end as last_end_of, last_kept, rising, sound, room, full as full_test};
 
 use answers::{Reason, Refusal};
+use declare::LONGEST_TRACE;
 pub use kept_traces::KeptTraces;
 pub use sound_store::SoundStore;
 
@@ -40,24 +42,13 @@ pub struct Room {
     pub space: Space,
 }
 
-pub const MOST_ACTIVITIES: u32 = 32;
-
 pub const MOST_TRACES: u32 = 4095;
-
-pub const LONGEST_TRACE: u32 = 4096;
-
-// Whether so many activities can be declared.
-pub fn declarable(n: u32) -> bool
-    ensures { result ≡ declarable_test n }
-{
-    1 <= n && n <= MOST_ACTIVITIES
-}
 
 // The empty record for n declared activities.
 pub fn open(n: u32) -> Result<Store, Refusal>
     ensures { (there : Store) → Opens n there (open_said result) (opened there result) }
 {
-    if !declarable(n) {
+    if !declare::declarable(n) {
         return Err(Reason::ActivitiesOutOfRange.into());
     }
     Ok(Store {
@@ -108,7 +99,7 @@ pub fn is_sound(store: Store, events: &[u8], ends: &[u32]) -> bool
     ensures { result ≡ sound (lent store events.now ends.now) }
 {
     let traces = store.traces as usize;
-    if !declarable(store.activities) || MOST_TRACES < store.traces || ends.len() < traces {
+    if !declare::declarable(store.activities) || MOST_TRACES < store.traces || ends.len() < traces {
         return false;
     }
     if !ends_rise(&ends[..traces]) {

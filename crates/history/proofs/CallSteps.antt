@@ -9,10 +9,11 @@ use lib.ListN.{length, length-append}
 use Rattle.base.specs.Checks.{Check, Reply, reply, when_passed, Outcome}
 use Rattle.base.proofs.Checks.{NoneFail, both_left}
 use Rattle.base.proofs.Outcomes.{past_check, accepted_passes, accepted_leaves}
+use Rattle.declare.specs.Traces.{declarable}
 use Rattle.eventlog.specs.declared.Space.{Space}
 use Rattle.eventlog.specs.declared.Room.{Room}
 use Rattle.eventlog.specs.declared.Store.{Store}
-use Rattle.eventlog.specs.Store.{declarable, Memory, with_store, last_end, space, room, with_kept, after_traces}
+use Rattle.eventlog.specs.Store.{Memory, with_store, last_end, space, room, with_kept, after_traces}
 use Rattle.eventlog.specs.Calls.{unsound, empty, open_checks, add_checks, with_trace, with_traces}
 use Rattle.eventlog.proofs.Laws.{total_append, fresh_kept, fresh_sound}
 use Rattle.eventlog.proofs.Traces.{Grown, grown_one}

@@ -6,9 +6,10 @@ use Rattle.std.proofs.Math.ListN.{get_elem?}
 use Rattle.base.specs.Checks.{gives, refused, reply, when_passed}
 use Rattle.declare.specs.declared.constraints.Constraint.{Constraint}
 use Rattle.declare.specs.Constraints.{Exactly}
+use Rattle.declare.specs.Traces.{declarable}
 use Rattle.eventlog.specs.declared.Space.{Space}
 use Rattle.eventlog.specs.declared.Store.{Store}
-use Rattle.eventlog.specs.Store.{Memory, memory, with_store, declarable, sound, kept, space, room}
+use Rattle.eventlog.specs.Store.{Memory, memory, with_store, sound, kept, space, room}
 use Rattle.eventlog.specs.Calls.{empty, Opens, Adds}
 use Rattle.columns.specs.Calls.{Reads}
 use Rattle.pruning.specs.declared.Settings.{Settings}

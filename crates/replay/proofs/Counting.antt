@@ -24,8 +24,9 @@ use Rattle.declare.specs.declared.constraints.Constraint.{Constraint}
 use Rattle.automata.specs.Automata.{automaton, moves_of}
 use Rattle.declare.specs.Meaning.{activated, holds, fulfilled, verdict}
 use Rattle.declare.specs.Constraints.{Over}
+use Rattle.declare.specs.Traces.{all_below}
 use Rattle.automata.proofs.Following.{followed_constraint}
-use Rattle.eventlog.specs.Store.{Memory, kept, all_below, sound}
+use Rattle.eventlog.specs.Store.{Memory, kept, sound}
 use Rattle.eventlog.proofs.Laws.{sound_facts, kept_declared}
 use Rattle.base.specs.Lists.{non_empty, count}
 use Rattle.base.proofs.Lists.{all_filter, count_same, count_filter, count_at_most}

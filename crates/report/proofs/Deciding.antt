@@ -14,7 +14,7 @@ use Rattle.eventlog.specs.declared.Store.{Store}
 use Rattle.answers.specs.declared.Reason.{Reason}
 use Rattle.answers.specs.declared.Refusal.{Refusal}
 use Rattle.answers.specs.Answers.{reason_number, refusal_said}
-use Rattle.eventlog.specs.Store.{declarable}
+use Rattle.declare.specs.Traces.{declarable}
 use Rattle.eventlog.specs.Calls.{open_checks, Opens}
 use Rattle.columns.specs.Log.{log_checks}
 use Rattle.discovery.specs.declared.Found.{Found}

@@ -15,8 +15,9 @@ use Rattle.base.proofs.Checks.{NoneFail, refused_old, refused_same, decision, de
 use Rattle.base.proofs.Outcomes.{outcome_refused, refused_keeps, accepted_passes, accepted_gives, accepted_leaves, past_check}
 use Rattle.answers.specs.declared.Refusal.{Refusal}
 use Rattle.answers.specs.Answers.{refusal_said}
+use Rattle.declare.specs.Traces.{declarable}
 use Rattle.eventlog.specs.declared.Room.{Room}
-use Rattle.eventlog.specs.Store.{declarable, Memory, last_end, sound, room}
+use Rattle.eventlog.specs.Store.{Memory, last_end, sound, room}
 use Rattle.eventlog.proofs.Laws.{fresh_sound, fresh_kept}
 use Rattle.columns.specs.Log.{log_checks, spelled}
 use Rattle.eventlog.specs.Calls.{with_traces}

@@ -12,8 +12,9 @@ use Rattle.base.specs.Checks.{refused, reply}
 use Rattle.base.proofs.Checks.{NoneFail, none_fail, none_fail_both, Each, each_append, refused_each}
 use Rattle.base.proofs.Lists.{count_at_most}
 use Rattle.declare.specs.Meaning.{fulfilled}
+use Rattle.declare.specs.Traces.{most_activities, declarable}
 use Rattle.eventlog.specs.declared.Room.{Room}
-use Rattle.eventlog.specs.Store.{most_activities, declarable, kept}
+use Rattle.eventlog.specs.Store.{kept}
 use Rattle.base.proofs.Ranges.{range_facts}
 use Rattle.eventlog.proofs.Laws.{kept_length, sound_facts}
 use Rattle.columns.specs.Log.{Line, Before, nothing_read, with_line, lines_within, lines, log_checks_from, log_checks, spelled}

@@ -4,7 +4,7 @@
 mod text;
 
 ghost use Rattle.std.specs.Prelude.{◌≡◌, true, ◌*◌, ◌≤◌, length};
-ghost use Rattle.eventlog.specs.Store.{declarable};
+ghost use Rattle.declare.specs.Traces.{declarable};
 ghost use Rattle.columns.specs.Log.{log_checks};
 ghost use Rattle.discovery.specs.Listing.{numbers};
 ghost use Rattle.report.specs.Report.{room_lent, Reports};

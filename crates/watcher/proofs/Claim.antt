@@ -14,11 +14,12 @@ use Rattle.base.specs.Checks.{Reply, refused}
 use Rattle.base.proofs.Checks.{none_fail_reply, refused_each, both_left}
 use Rattle.base.proofs.Outcomes.{one_outcome, refused_keeps, accepted_passes, accepted_leaves}
 use Rattle.declare.specs.declared.constraints.Constraint.{Constraint}
-use Rattle.eventlog.specs.Store.{all_below}
-use Rattle.watcher.specs.Table.{state_after, outlook}
+use Rattle.declare.specs.Traces.{all_below}
+use Rattle.automata.specs.Ahead.{outlook}
+use Rattle.automata.proofs.Outlooks.{exclude, outlook_right}
+use Rattle.watcher.specs.Table.{state_after}
 use Rattle.watcher.specs.Calls.{given, proper, Slots, Watched, slots_after, start_checks, Starts, step_checks, taking, Made, checks_of_step, Steps}
 use Rattle.watcher.specs.Watching.{Tells, Seen, Watching, Untouched, RightStep, EachRight, Started, StatesTold}
-use Rattle.watcher.proofs.Outlooks.{exclude, right}
 use Rattle.watcher.proofs.Making.{proper_over, all_proper}
 use Rattle.watcher.proofs.Stepping.{step_made}
 
@@ -29,7 +30,7 @@ pub tells_each : (n : ℕ) (trace : List ℕ) → all_below n trace ≡ true →
 tells_each n trace within [] rest h = tt
 tells_each n trace within (c ∷ cs) rest h =
     let others = list_all (proper n) cs in
-    (right n c (proper_over n c (and_left (proper n c) others h)) trace within, tells_each n trace within cs rest (and_right (proper n c) others h))
+    (outlook_right n c (proper_over n c (and_left (proper n c) others h)) trace within, tells_each n trace within cs rest (and_right (proper n c) others h))
 
 module _ (n : ℕ) (numbers : List ℕ) (before : Slots) (trace : List ℕ) where
   untouched_after : Untouched numbers before (slots_after n numbers before trace)
@@ -105,7 +106,7 @@ states_told =
             made_untouched s.n s.numbers s.before.slots [] s.left (start_made s),
           );
       after_each = λ s activities seen w. each_right s.n s.numbers s.before.slots [] s.left activities seen (start_made s) w;
-      one_is = λ n c trace over within. (outlook n c trace, right n c over trace within);
+      one_is = λ n c trace over within. (outlook n c trace, outlook_right n c over trace within);
       no_other = exclude;
     }
 

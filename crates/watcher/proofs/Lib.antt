@@ -1,4 +1,3 @@
-pub mod Outlooks
 pub mod Turning
 pub mod Chunks
 pub mod Filling
@@ -8,5 +7,4 @@ pub mod Starting
 pub mod Stepping
 pub mod Claim
 pub mod Existence
-pub mod SmallN
 pub mod Sample

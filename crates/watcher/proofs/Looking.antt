@@ -13,7 +13,8 @@ use Rattle.base.proofs.Lists.{all_range}
 use Rattle.automata.specs.Automata.{next_of, letter}
 use Rattle.automata.proofs.Agreement.{letter_small}
 use Rattle.automata.proofs.Shifting.{at_every_state}
-use Rattle.watcher.specs.Table.{outlook_in, table, place}
+use Rattle.automata.specs.Ahead.{outlook_in}
+use Rattle.watcher.specs.Table.{table, place}
 
 abbrev tells : Bool → ℕ → ℕ → Bool
 tells only t k = eqb (get_or (table only) (4 * (t + 32 * k) + 3) 0) (outlook_in only t k)

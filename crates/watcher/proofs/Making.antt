@@ -19,11 +19,12 @@ use Rattle.base.proofs.Lists.{map_map, all_map, all_range, same_on_range, range_
 use Rattle.base.proofs.Checks.{NoneFail, none_fail}
 use Rattle.declare.specs.declared.constraints.Constraint.{Constraint}
 use Rattle.declare.specs.Constraints.{pairs, Over}
+use Rattle.declare.specs.Traces.{declarable}
 use Rattle.automata.proofs.Shifting.{follow_small}
 use Rattle.automata.proofs.Following.{follow_append}
-use Rattle.eventlog.specs.Store.{declarable}
+use Rattle.automata.specs.Ahead.{state_number, outlook}
 use Rattle.watcher.specs.Calls.{constraint_at, given, proper, all_whole, Slots, slots_after, start_checks}
-use Rattle.watcher.specs.Table.{table, place, state_number, state_after, outlook}
+use Rattle.watcher.specs.Table.{table, place, state_after}
 use Rattle.watcher.specs.Loops.{each_of, put, first_turn, turn_by}
 use Rattle.watcher.proofs.Filling.{filled}
 use Rattle.watcher.proofs.Looking.{outlook_there, next_there}

@@ -7,9 +7,9 @@ use mathlib.Core.Bool.{true}
 use mathlib.Core.List.{List, [], ◌∷◌}
 use lib.ListN.{length, drop}
 use Rattle.base.specs.Checks.{gives, refused}
-use Rattle.eventlog.specs.Store.{all_below}
+use Rattle.declare.specs.Traces.{all_below}
+use Rattle.automata.specs.Ahead.{outlook_in}
 use Rattle.watcher.specs.Calls.{given, Watched, watched_after, Starts, taking, Made}
-use Rattle.watcher.specs.Table.{outlook_in}
 use Rattle.watcher.specs.Watching.{Tells, Untouched, Seen, Watching, Started}
 use Rattle.watcher.proofs.Claim.{tells_each}
 use Rattle.watcher.proofs.Existence.{made_steps, watchings_exist}

@@ -13,7 +13,7 @@ use Rattle.base.proofs.Bools.{and_left, and_right, and_both}
 use Rattle.base.proofs.Lists.{all_append}
 use Rattle.base.proofs.Checks.{NoneFail, none_fail, never_both}
 use Rattle.base.proofs.Outcomes.{outcome_refused, outcome_accepted}
-use Rattle.eventlog.specs.Store.{most_activities, longest_trace}
+use Rattle.declare.specs.Traces.{most_activities, longest_trace}
 use Rattle.watcher.specs.declared.Watcher.{Watcher}
 use Rattle.watcher.specs.Calls.{most_constraints, Slots, Watched, watcher_after, watched_after, step_checks, Made, checks_of_step, usable, Steps}
 use Rattle.watcher.specs.Table.{table}

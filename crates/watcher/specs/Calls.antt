@@ -9,9 +9,10 @@ use Rattle.answers.specs.declared.Refusal.{Refusal}
 use Rattle.answers.specs.Answers.{said_by, record_after}
 use Rattle.declare.specs.declared.constraints.Constraint.{Constraint}
 use Rattle.declare.specs.Constraints.{constraint, pairs}
-use Rattle.eventlog.specs.Store.{most_activities, longest_trace, declarable, all_below}
+use Rattle.declare.specs.Traces.{most_activities, longest_trace, declarable, all_below}
+use Rattle.automata.specs.Ahead.{outlook}
 use Rattle.watcher.specs.declared.Watcher.{Watcher}
-use Rattle.watcher.specs.Table.{state_after, outlook}
+use Rattle.watcher.specs.Table.{state_after}
 
 abbrev pub most_constraints : ℕ
 most_constraints = 256

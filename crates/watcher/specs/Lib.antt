@@ -1,6 +1,5 @@
 pub mod Calls
 pub mod Examples
 pub mod Loops
-pub mod Outlook
 pub mod Table
 pub mod Watching

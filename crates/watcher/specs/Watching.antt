@@ -4,8 +4,8 @@ use Rattle.std.specs.Prelude.{ℕ, ◌≡◌, true, List, [], ◌∷◌, length,
 use Rattle.base.specs.Checks.{Reply, gives, refused, reply}
 use Rattle.declare.specs.declared.constraints.Constraint.{Constraint}
 use Rattle.declare.specs.Constraints.{Over}
-use Rattle.eventlog.specs.Store.{all_below}
-use Rattle.watcher.specs.Outlook.{State}
+use Rattle.declare.specs.Traces.{all_below}
+use Rattle.automata.specs.Outlook.{State}
 use Rattle.watcher.specs.Calls.{given, Slots, Watched, watcher_after, start_checks, Starts, step_checks, taking, Steps}
 
 -- what is told is the state of each constraint, after the trace

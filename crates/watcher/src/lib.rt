@@ -121,7 +121,7 @@ fn is_well_formed(activities: u32, numbers: &[u16]) -> bool
 fn start_answer(activities: u32, numbers: &[u16]) -> Result<Watcher, Refusal>
     ensures { start_said result ≡ reply (start_checks activities numbers.now) (activities ∷ length numbers.now / 3 ∷ 0 ∷ []) }
 {
-    if !eventlog::declarable(activities) {
+    if !declare::declarable(activities) {
         return Err(Reason::ActivitiesOutOfRange.into());
     }
     if MOST_NUMBERS < numbers.len() {
@@ -218,10 +218,10 @@ impl Watcher {
         ensures { result ≡ usable self numbers }
     {
         let constraints = self.constraints as usize;
-        self.activities <= eventlog::MOST_ACTIVITIES
+        self.activities <= declare::MOST_ACTIVITIES
             && constraints <= MOST_CONSTRAINTS
             && NUMBERS * constraints == numbers
-            && self.taken <= eventlog::LONGEST_TRACE
+            && self.taken <= declare::LONGEST_TRACE
     }
 
     // What step answers. Nothing is written before this is known.
@@ -234,7 +234,7 @@ impl Watcher {
         if self.activities <= activity {
             return Err(Reason::Undeclared.into());
         }
-        if eventlog::LONGEST_TRACE <= self.taken {
+        if declare::LONGEST_TRACE <= self.taken {
             return Err(Reason::TooLong.into());
         }
         Ok(())

@@ -4,7 +4,8 @@ use borrow.Author.Tests.{lt-ltb, le-ltb}
 use Rattle.std.specs.List.{position}
 use Rattle.base.specs.Checks.{refused, reply}
 use Rattle.answers.specs.Answers.{refusal_said}
-use Rattle.eventlog.specs.Store.{Memory, sound, last_end, all_below, room, full, lent}
+use Rattle.declare.specs.Traces.{all_below}
+use Rattle.eventlog.specs.Store.{Memory, sound, last_end, room, full, lent}
 use Rattle.eventlog.specs.Calls.{checks_of_add}
 use Rattle.eventlog.specs.declared.sound_store.SoundStore.{SoundStore}
 use Rattle.eventlog.specs.SoundStore.{memory_of}

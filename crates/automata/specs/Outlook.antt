@@ -3,7 +3,7 @@
 use Rattle.std.specs.Prelude.{ℕ, zero, suc, ◌≡◌, Bool, true, false, List, ◌++◌}
 use Rattle.declare.specs.declared.constraints.Constraint.{Constraint}
 use Rattle.declare.specs.Meaning.{holds}
-use Rattle.eventlog.specs.Store.{all_below}
+use Rattle.declare.specs.Traces.{all_below}
 
 -- "holds" is the rule's meaning without activation
 abbrev pub holds_on : Constraint → List ℕ → Bool

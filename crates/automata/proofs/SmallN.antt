@@ -13,11 +13,11 @@ use Rattle.base.proofs.Bools.{either}
 use Rattle.base.proofs.Lists.{all_weaker}
 use Rattle.declare.specs.declared.constraints.Constraint.{Constraint}
 use Rattle.declare.specs.Constraints.{constraint, Over}
+use Rattle.declare.specs.Traces.{all_below}
+use Rattle.automata.specs.Outlook.{State}
+use Rattle.automata.specs.Ahead.{outlook_in, state_number, outlook}
 use Rattle.automata.proofs.Shifting.{at_every_state, follow_small}
-use Rattle.eventlog.specs.Store.{all_below}
-use Rattle.watcher.specs.Outlook.{State}
-use Rattle.watcher.specs.Table.{outlook_in, state_number, outlook}
-use Rattle.watcher.proofs.Outlooks.{exclude, right}
+use Rattle.automata.proofs.Outlooks.{exclude, outlook_right}
 
 -- ## One test: in which states it matters whether another activity is declared
 
@@ -43,8 +43,8 @@ pub more_declared : (n n' : ℕ) (c : Constraint) (trace : List ℕ) (s : ℕ) �
     → (n ≡ 1 → c.template ≡ 8 → trace ≡ []) → State n c trace s → State n' c trace s
 more_declared n n' c trace s more over within unless h =
     let over' : Over n' c = record { from_1 = over.from_1; to_24 = over.to_24; a_declared = omega (arith, over.a_declared); b_declared = omega (arith, over.b_declared); paired = over.paired } in
-    subst (State n' c trace) (sym (exclude n c trace s (outlook n c trace) h (right n c over trace within) ∙ same))
-    (right n' c over' trace (below_more n n' more trace within))
+    subst (State n' c trace) (sym (exclude n c trace s (outlook n c trace) h (outlook_right n c over trace within) ∙ unchanged))
+    (outlook_right n' c over' trace (below_more n n' more trace within))
   where
     small : state_number c trace < 8
     small = follow_small c.template over.from_1 over.to_24 c.a c.b 0 trace (omega arith)
@@ -58,8 +58,8 @@ more_declared n n' c trace s more over within unless h =
         none : state_number c trace ≡ 0 → state_number c trace ≡ 1 → ⊥
         none e f = omega arith
 
-    same : outlook n c trace ≡ outlook n' c trace
-    same =
+    unchanged : outlook n c trace ≡ outlook n' c trace
+    unchanged =
         either (eqb n 1)
         (λ e. either (eqb n' 1) (λ e'. rw (e, e')) (λ e'. rw (e, e') (same_outlook c.template (state_number c trace) over.from_1 over.to_24 small (other (eqb-true n 1 e)))))
         (λ e. rw (e, ne_eqb n' 1 (λ f. eqb-false n 1 e (omega (arith, over.a_declared)))))
@@ -75,9 +75,9 @@ end_over n some = record { from_1 = omega arith; to_24 = omega arith; a_declared
 -- with one activity every step is it: after a step template 8 holds with every continuation
 pub alone_settled : State 1 end_of_0 (0 ∷ []) 0
 unfolding outlook_in
-alone_settled = right 1 end_of_0 (end_over 1 (omega arith)) (0 ∷ []) refl
+alone_settled = outlook_right 1 end_of_0 (end_over 1 (omega arith)) (0 ∷ []) refl
 
 -- with two a step of the other kind ends that
 pub beside_another : State 2 end_of_0 (0 ∷ []) 1
 unfolding outlook_in
-beside_another = right 2 end_of_0 (end_over 2 (omega arith)) (0 ∷ []) refl
+beside_another = outlook_right 2 end_of_0 (end_over 2 (omega arith)) (0 ∷ []) refl

@@ -15,14 +15,14 @@ use Rattle.base.specs.Lists.{range}
 use Rattle.base.proofs.Bools.{equal_same, and_left, and_right, and_both, implied, fails_too, either, at_both, clash, not_itself}
 use Rattle.base.proofs.Lists.{all_range, all_append}
 use Rattle.declare.specs.declared.constraints.Constraint.{Constraint}
-use Rattle.automata.specs.Automata.{next_of, verdict_of, follow, letter}
 use Rattle.declare.specs.Constraints.{Over}
+use Rattle.declare.specs.Traces.{all_below}
+use Rattle.automata.specs.Automata.{next_of, verdict_of, follow, letter}
+use Rattle.automata.specs.Outlook.{holds_on, Every, Some, State}
+use Rattle.automata.specs.Ahead.{holds_in, second, reaches, outlook_in, state_number, outlook}
 use Rattle.automata.proofs.Agreement.{letter_small}
 use Rattle.automata.proofs.Shifting.{at_every_state, next_small, follow_small}
 use Rattle.automata.proofs.Following.{follow_append, follow_holds_constraint}
-use Rattle.eventlog.specs.Store.{all_below}
-use Rattle.watcher.specs.Outlook.{holds_on, Every, Some, State}
-use Rattle.watcher.specs.Table.{holds_in, second, reaches, outlook_in, state_number, outlook}
 
 -- ## The four exclude each other
 
@@ -212,6 +212,6 @@ module _ (n : ℕ) (c : Constraint) (over : Over n c) where
     by_cases false un-holds false e f g = (e, every false g)
 
     -- what the automaton's state tells after a trace is the constraint's state
-    pub right : State n c trace (outlook n c trace)
+    pub outlook_right : State n c trace (outlook n c trace)
     unfolding outlook_in here
-    right = by_cases (holds_in c.template here) _ _ (sym (follow_holds_constraint n c over trace within)) refl refl
+    outlook_right = by_cases (holds_in c.template here) _ _ (sym (follow_holds_constraint n c over trace within)) refl refl
