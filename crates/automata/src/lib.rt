@@ -1,4 +1,5 @@
-// The automata of the DECLARE templates, the tables that hold them, and the replayer.
+// The automata of the DECLARE templates, the tables that hold them, and the replayer. What is still open in each state (specs/Outlook) is
+// told by the watcher.
 #![tactic(auto)]
 
 mod tables;

@@ -291,7 +291,7 @@ numbered_within (suc most) (b ∷ bs) = (numbered_line (take 10 (b ∷ bs)), num
 
 pub numbered_lines : (log : List ℕ) → Numbered (lines log)
 unfolding lines
-numbered_lines log = numbered_within (length log) log
+numbered_lines log = numbered_within _ log
 
 -- ## What an accepted log spells can be added
 

@@ -21,30 +21,30 @@ use Rattle.std.specs.Prelude.{Result, Ok, Err}
 use Rattle.discovery.specs.declared.list.Tally.{Tally}
 use Rattle.pruning.specs.declared.Settings.{Settings}
 use Rattle.declare.specs.Constraints.{constraints}
-use Rattle.pruning.specs.Question.{Question, asked, trace_count, is_listed}
-use Rattle.discovery.specs.Listing.{listed, replayed, numbers}
+use Rattle.pruning.specs.Question.{Question, asked, trace_count}
+use Rattle.discovery.specs.Listing.{is_listed, listed, replayed, numbers, layout}
 use Rattle.pruning.specs.Question.{threshold_in_range}
 use Rattle.discovery.specs.Calls.{Finds, find_checks, checks_of_find, find_values, with_list}
-use Rattle.discovery.specs.Passes.{Passes, none_yet, fit_of}
+use Rattle.discovery.specs.Passes.{Considers, none_yet, fit_of}
 
 -- ## Passing over all constraints
 
-module _ {q : Question} {list list' : List ℕ} {t : Tally} (p : Passes q (constraints q.activities) none_yet list t list') where
+module _ {q : Question} {list list' : List ℕ} {t : Tally} (p : Considers q (constraints q.activities) none_yet list t list') where
   pub passed_listed : t.listed ≡ length (listed q)
   unfolding listed
-  passed_listed = omega (arith, p.listed)
+  passed_listed = omega (arith, p.passes.listed)
 
   pub passed_replayed : t.replayed ≡ length (replayed q)
   unfolding replayed
   passed_replayed = omega (arith, p.replayed)
 
   pub passed_written : list' ≡ with_list q list
-  unfolding listed
-  passed_written = p.written
+  unfolding listed layout
+  passed_written = p.passes.written
 
   -- a slice of no numbers stays so
   pub passed_none : list ≡ [] → list' ≡ []
-  passed_none none = p.written ∙ rw (none, sets_none)
+  passed_none none = p.passes.written ∙ rw (none, sets_none)
 
 -- ## Whether the list fits
 
@@ -77,7 +77,7 @@ module _ (m : Memory) (settings : Settings) {list list' : List ℕ} {t : Tally} 
   pub finds_listed :
       sound m ≡ true → threshold_in_range settings ≡ true → traces ≡ trace_count (asked m settings) → (traces ≡ 0 → ⊥) →
       fit_of (length (listed (asked m settings))) list ≡ Ok u →
-      Passes (asked m settings) (constraints m.store.activities) none_yet list t list' →
+      Considers (asked m settings) (constraints m.store.activities) none_yet list t list' →
       Finds m settings list (gives (t.listed ∷ t.replayed ∷ traces ∷ [])) list'
   finds_listed is_sound ranged same some fit p =
       let q = asked m settings in

@@ -14,10 +14,10 @@ use Rattle.std.specs.Prelude.{if◌then◌else◌}
 use Rattle.declare.specs.Meaning.{fulfilled}
 use Rattle.declare.specs.declared.constraints.Constraint.{Constraint}
 use Rattle.std.specs.List.{filter}
-use Rattle.base.specs.Lists.{non_empty, count, flat_map, equal_lists}
+use Rattle.base.specs.Lists.{non_empty, count, equal_lists}
 use Rattle.pruning.specs.declared.Settings.{Settings}
-use Rattle.pruning.specs.Question.{Question, question_over, trace_count, meets_threshold, fulfilments, class_of, support, always, survives, is_listed}
-use Rattle.discovery.specs.Listing.{layout}
+use Rattle.pruning.specs.Question.{Question, question_over, trace_count, measure_of, meets, fulfilments, class_of, support, always, survives}
+use Rattle.discovery.specs.Listing.{rows, is_listed, layout}
 use Rattle.discovery.specs.Claims.{Alike}
 use Rattle.base.proofs.Lists.{equal_lists_same, equal_lists_refl, count_cons, count_filter, count_none, permuted_length, permuted_count}
 
@@ -124,7 +124,7 @@ module _ (q q' : Question) (alike : AlikeQuestions q q') where
   unfolding support
   same_support c = permuted_count _ alike.traces
 
-  meets_alike : {x y : ℕ} → x ≡ y → meets_threshold q x ≡ meets_threshold q' y
+  meets_alike : {x y : ℕ} → x ≡ y → meets (measure_of q) x ≡ meets (measure_of q') y
   meets_alike e = cc (ap (λ (s : Settings). s.threshold) alike.settings, trace_count_alike)
 
   pub is_listed_alike : is_listed q ≡ is_listed q'
@@ -135,4 +135,4 @@ module _ (q q' : Question) (alike : AlikeQuestions q q') where
 
   pub layout_alike : (cs : List Constraint) → layout q cs ≡ layout q' cs
   unfolding layout
-  layout_alike cs = ap (λ f. flat_map cs λ c. c.template ∷ c.a ∷ c.b ∷ f c ∷ []) same_fulfilments
+  layout_alike cs = ap (λ f. rows (λ c. record { fulfilled = f c }) cs) same_fulfilments

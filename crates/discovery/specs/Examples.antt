@@ -15,18 +15,18 @@ use Rattle.discovery.specs.Calls.{find_checks, find_values}
 abbrev by : ℕ → Settings
 by threshold = record { threshold = threshold }
 
--- A row of the table.
-pub data Row : Type 0 where
+-- A case of the table.
+pub data Case : Type 0 where
   -- a trace, and templates on 0 and 1 with their verdicts (templates 1 to 8 are on 0)
-  on : List ℕ → List (ℕ × Verdict) → Row
+  on : List ℕ → List (ℕ × Verdict) → Case
   -- how many traces there are, a count of them, and thresholds with whether the count meets them
-  counted : ℕ → ℕ → List (ℕ × Bool) → Row
+  counted : ℕ → ℕ → List (ℕ × Bool) → Case
   -- a question, the list as it is laid out, and the numbers: listed, replayed, traces
-  finds : Question → List ℕ → List ℕ → Row
+  finds : Question → List ℕ → List ℕ → Case
   -- a question, a slice lent for the list, and the reply
-  replies : Question → List ℕ → Reply → Row
+  replies : Question → List ℕ → Reply → Case
 
-pub table : List Row
+pub table : List Case
 table =
     on [] ((14, NotActivated) ∷ (4, Fulfilled) ∷ (9, Violated) ∷ []) ∷
     on (0 ∷ 0 ∷ 1 ∷ []) ((14, Fulfilled) ∷ (15, Violated) ∷ (18, Fulfilled) ∷ []) ∷
@@ -40,7 +40,7 @@ table =
     replies (question_over 1 ([] ∷ []) (by 1000)) [] (refused 11 0) ∷
     []
 
-pub sample : List Row
+pub sample : List Case
 sample =
     finds (question_over 2 ((0 ∷ []) ∷ []) (by 1000))
     (
@@ -69,18 +69,18 @@ verdicts_on trace (r ∷ rows) = (r.0, verdict r.0 0 1 trace) ∷ verdicts_on tr
 
 abbrev pub meetings : ℕ → ℕ → List (ℕ × Bool) → List (ℕ × Bool)
 meetings all number [] = []
-meetings all number (r ∷ rows) = (r.0, meets r.0 all number) ∷ meetings all number rows
+meetings all number (r ∷ rows) = (r.0, meets (record { activities = 0; settings = by r.0; traces = all }) number) ∷ meetings all number rows
 
--- a row with what the definitions say in it
-abbrev pub by_definition : Row → Row
+-- a case with what the definitions say in it
+abbrev pub by_definition : Case → Case
 by_definition (on trace rows) = on trace (verdicts_on trace rows)
 by_definition (counted all number rows) = counted all number (meetings all number rows)
 by_definition (finds q list numbers) = finds q (layout q (listed q)) (find_values q)
 by_definition (replies q list said) = replies q list (reply (find_checks q list) (find_values q))
 
-abbrev pub all_by_definition : List Row → List Row
+abbrev pub all_by_definition : List Case → List Case
 all_by_definition [] = []
-all_by_definition (row ∷ rows) = by_definition row ∷ all_by_definition rows
+all_by_definition (case ∷ cases) = by_definition case ∷ all_by_definition cases
 
 pub table_holds : all_by_definition table ≡ table
 unfolding table constraints fulfilments support listed replayed layout verdict fulfilled activated holds meanings
@@ -94,8 +94,13 @@ pub two_runs : find_values (question_over 2 ((0 ∷ 1 ∷ []) ∷ (0 ∷ 0 ∷ 1
 unfolding constraints fulfilments support listed replayed layout fulfilled activated holds meanings
 two_runs = refl
 
+-- where neither activity of a pair occurs, pruning drops the choices and the not successions over it
+pub without_either : find_values (question_over 3 ((2 ∷ []) ∷ []) (by 1000)) ≡ 25 ∷ 28 ∷ 1 ∷ []
+unfolding constraints fulfilments support listed replayed layout fulfilled activated holds meanings
+without_either = refl
+
 -- beside a trace of length 1 two empty ones count for nothing, though 4 holds on them and 1, 7 and 8 do not
-pub empty_ones : List Row
+pub empty_ones : List Case
 empty_ones =
     finds (question_over 1 ([] ∷ (0 ∷ []) ∷ [] ∷ []) (by 1000))
     (1 ∷ 0 ∷ 0 ∷ 1 ∷ 5 ∷ 0 ∷ 0 ∷ 1 ∷ 6 ∷ 0 ∷ 0 ∷ 1 ∷ 7 ∷ 0 ∷ 0 ∷ 1 ∷ 8 ∷ 0 ∷ 0 ∷ 1 ∷ []) (5 ∷ 8 ∷ 1 ∷ []) ∷
@@ -110,7 +115,7 @@ empty_ones_hold = refl
 abbrev one_trace : ℕ → Question
 one_trace threshold = question_over 1 ((0 ∷ []) ∷ []) (by threshold)
 
-pub bounds : List Row
+pub bounds : List Case
 bounds =
     replies (one_trace 0) (replicate 20 0) (refused 3 0) ∷
     replies (one_trace 1) (replicate 20 0) (gives (5 ∷ 8 ∷ 1 ∷ [])) ∷

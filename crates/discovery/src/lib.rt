@@ -1,8 +1,9 @@
 // Discovery (document 01: finding) over a store of traces: what pruning keeps is replayed, and what meets the threshold is listed.
 #![tactic(auto)]
 
-mod at_hand;
 mod list;
+mod row;
+mod walk;
 
 ghost use Rattle.eventlog.specs.Store.{lent};
 ghost use Rattle.discovery.specs.Calls.{Finds, find_said};
@@ -11,9 +12,7 @@ use answers::{Reason, Refusal};
 use eventlog::{SoundStore, Store};
 use list::{look, pass};
 use pruning::{Query, Settings};
-
-// The numbers that a constraint takes in the list.
-pub const NUMBERS: usize = 4;
+pub use row::{Counts, NUMBERS, Row};
 
 // The constraints listed, those replayed, and R: how many kept traces are of length 1 or more.
 #[derive(Clone, Copy, Debug, PartialEq, Eq)]
@@ -39,7 +38,7 @@ pub fn find(
         return Err(Reason::ThresholdOutOfRange.into());
     }
     let query = Query::new(sound, settings);
-    if query.traces == 0 {
+    if query.measure.traces == 0 {
         return Err(Reason::NoTrace.into());
     }
     look(query, list)?;
@@ -47,6 +46,6 @@ pub fn find(
     Ok(Found {
         constraints: tally.listed,
         replayed: tally.replayed,
-        traces: query.traces,
+        traces: query.measure.traces,
     })
 }

@@ -1,18 +1,17 @@
-// The list: passing over the constraints, and writing those to be listed.
-ghost use Rattle.std.specs.Prelude.{◌*◌, ◌≡◌, [], ◌∷◌, length, set};
-ghost use Rattle.std.proofs.lemmas.List.Edits.{sets};
+// The list: passing over the constraints, and entering those to be listed.
+ghost use Rattle.std.specs.Prelude.{◌≡◌, [], ◌∷◌, length};
 ghost use Rattle.declare.specs.Constraints.{constraints};
-ghost use Rattle.discovery.specs.Listing.{listed, numbers};
+ghost use Rattle.discovery.specs.Listing.{listed};
 ghost use Rattle.pruning.specs.Query.{asked_by};
-ghost use Rattle.replay.specs.Replays.{Kept};
-ghost use Rattle.discovery.specs.Passes.{Passes, TallyFits, none_yet, fit_of};
+ghost use Rattle.replay.specs.Replays.{Replayable};
+ghost use Rattle.discovery.specs.Passes.{Passes, Considers, TallyFits, none_yet, fit_of};
 
-use crate::NUMBERS;
-use crate::at_hand::AtHand;
+use crate::row::{Counts, NUMBERS, write};
+use crate::walk::Walk;
 use answers::{Reason, Refusal};
 use declare::{Constraint, Constraints};
-use pruning::{Class, Query};
-use replay::{SealedAutomaton, replay};
+use pruning::{Measure, Query};
+use replay::replay;
 
 // How many constraints so far are listed, and how many were replayed.
 #[derive(Clone, Copy, Debug, PartialEq, Eq)]
@@ -21,84 +20,61 @@ pub struct Tally {
     pub replayed: u32,
 }
 
-// A number past the slice's end is dropped: the first pass of find is lent no numbers, and writes none.
-fn put(list: &mut [u16], at: usize, value: u16)
-    ensures { list.new ≡ set list.old at value }
+// Enters a constraint of known counts, wherever they come from: it is written where they meet the threshold. How many are listed then has 64
+// bits, in which one more than any 32-bit number fits.
+fn enter(measure: Measure, c: Constraint, counts: Counts, listed: u32, list: &mut [u16]) -> u64
+    ensures { Passes measure (λ c. counts) (c ∷ []) listed list.old result list.new }
 {
-    if at < list.len() {
-        list[at] = value;
+    if !measure.meets(u32::from(counts.fulfilled)) {
+        return u64::from(listed);
     }
+    write(list, listed, c, counts);
+    u64::from(listed) + 1
 }
 
-// The four numbers of a listed constraint, behind those of the constraints listed before it.
-// How many these are stands beside the list and is no length of it: the first pass counts them, and is lent none of the list.
-fn write(list: &mut [u16], listed: u32, c: Constraint, count: u16)
-    ensures { list.new ≡ sets list.old (numbers * listed) (c.template ∷ c.a ∷ c.b ∷ count ∷ []) }
+// Passes over a constraint that pruning keeps: it is replayed, and entered with its counts.
+fn consider(query: Query, walk: Walk, tally: Tally, list: &mut [u16]) -> Tally
+    requires replayable { Replayable (asked_by query) walk.automaton walk.constraint }
+    requires tally_fits { TallyFits query.measure.activities tally }
+    ensures { Considers (asked_by query.entry) (walk.constraint ∷ []) tally list.old result list.new }
 {
-    let at = NUMBERS * (listed as usize);
-    put(list, at, u16::from(c.template));
-    put(list, at + 1, u16::from(c.a));
-    put(list, at + 2, u16::from(c.b));
-    put(list, at + 3, count);
-}
-
-// Passes over one constraint that pruning keeps: it is replayed, and written where its count meets the threshold.
-fn consider(
-    query: Query,
-    c: Constraint,
-    automaton: SealedAutomaton,
-    tally: Tally,
-    list: &mut [u16],
-) -> Tally
-    requires kept { Kept (asked_by query) automaton c }
-    requires tally_fits { TallyFits query.sound.store.activities tally }
-    ensures { Passes (asked_by query.entry) (c ∷ []) tally list.old result list.new }
-{
-    let replayed = replay(query, c, automaton, tally.replayed);
-    let tally = Tally {
-        replayed: replayed.replayed as u32,
-        ..tally
+    let c = walk.constraint;
+    let replayed = replay(query, c, walk.automaton, tally.replayed);
+    let counts = Counts {
+        fulfilled: replayed.fulfilled as u16,
     };
-    if !query.meets(replayed.fulfilled) {
-        return tally;
-    }
-    write(list, tally.listed, c, replayed.fulfilled as u16);
     Tally {
-        listed: tally.listed + 1,
-        ..tally
+        listed: enter(query.measure, c, counts, tally.listed, list) as u32,
+        replayed: replayed.replayed as u32,
     }
 }
 
 // Passes over all constraints in their order: counts those listed and replayed, and writes the list as far as the slice goes. What pruning
 // drops is not replayed.
-#[tactic(auto, using(pruning::proofs::Counting::few_activities))]
 pub(crate) fn pass(query: Query, list: &mut [u16]) -> Tally
-    ensures { Passes (asked_by query.entry) (constraints query.entry.sound.store.activities) none_yet list.old result list.new }
+    ensures { Considers (asked_by query.entry) (constraints query.entry.measure.activities) none_yet list.old result list.new }
 {
     let mut tally = Tally {
         listed: 0,
         replayed: 0,
     };
-    // The automaton is at first that of no template, number 0: with an Option each step would ask whether there is one.
-    let mut class = AtHand::<Class>::new(1);
-    let mut automaton = AtHand::<SealedAutomaton>::new(0);
-    for c in Constraints::over(query.sound.store.activities as u8) {
-        class = class.on_to(c.template);
-        if query.survives(c, class.made) {
-            automaton = automaton.on_to(c.template);
-            tally = consider(query, c, automaton.made, tally, list);
+    let mut walk = Walk::new();
+    for c in Constraints::over(query.measure.activities as u8) {
+        walk = walk.on_to(c);
+        if query.survives(c, walk.class) {
+            walk = walk.with_automaton();
+            tally = consider(query, walk, tally, list);
         }
     }
     tally
 }
 
 // Looks whether the list fits, and leaves the slice as it was. Where there is room for all constraints, nothing is replayed for it.
-#[tactic(auto, using(pruning::proofs::Counting::few_activities))]
 pub(crate) fn look(query: Query, list: &mut [u16]) -> Result<(), Refusal>
     ensures fit { result ≡ fit_of (length (listed (asked_by query.entry))) list.old }
     ensures list_unchanged { list.new ≡ list.old }
 {
-    let all = declare::constraint_count(query.sound.store.activities as u8);
+    let all = declare::constraint_count(query.measure.activities as u8);
     if all as usize <= list.len() / NUMBERS {
         return Ok(());
     }

@@ -1,8 +1,32 @@
-// The traces that ends cut off, one after the other.
+// The kept parts of a sound store, and the traces that lie in them, one after the other.
 ghost use Rattle.std.specs.Prelude.{◌≡◌, ◌≤◌, true, length};
-ghost use Rattle.eventlog.specs.Store.{cut, rising, last_from};
+ghost use Rattle.eventlog.specs.Store.{cut, rising, last_from, most_traces};
 
 use std::marker::Model;
+
+// The buffers of a sound store, the ends cut to those of the traces that are kept. What goes over the traces is lent these, and no record.
+#[derive(Clone, Copy)]
+pub struct KeptParts<'a> {
+    pub(crate) events: &'a [u8],
+    pub(crate) ends: &'a [u32],
+    ghost rise: { rising 0 ends.now ≡ true },
+    ghost fit: { last_from 0 ends.now ≤ length events.now },
+    ghost few: { length ends.now ≤ most_traces },
+}
+
+impl<'a> KeptParts<'a> {
+    ghost use Rattle.eventlog.specs.SoundStore.{traces_in};
+
+    pub fn traces(self) -> KeptTraces<'a>
+        ensures { result ≡ traces_in self.entry }
+    {
+        KeptTraces {
+            events: self.events,
+            ends: self.ends,
+            from: 0,
+        }
+    }
+}
 
 // What is left of the traces: each is the part of the events from the end before to its own.
 #[derive(Drop)]
@@ -21,20 +45,6 @@ impl<'a> Model for KeptTraces<'a> {
     ghost view = { λ t. cut t.from t.ends.now t.events.now };
 
     ghost invariant = { λ t. (rising t.from t.ends.now ≡ true) × (last_from t.from t.ends.now ≤ length t.events.now) };
-}
-
-impl<'a> KeptTraces<'a> {
-    pub(crate) fn new(events: &'a [u8], ends: &'a [u32]) -> KeptTraces<'a>
-        requires rise { rising 0 ends.now ≡ true }
-        requires fit { last_from 0 ends.now ≤ length events.now }
-        ensures { result ≡ cut 0 ends.now events.now }
-    {
-        KeptTraces {
-            events,
-            ends,
-            from: 0,
-        }
-    }
 }
 
 impl<'a> Iterator for KeptTraces<'a> {

@@ -14,7 +14,7 @@ ghost use Rattle.eventlog.specs.Store.{lent, last_end as last_end_of, last_kept,
 
 use answers::{Reason, Refusal};
 use declare::LONGEST_TRACE;
-pub use kept_traces::KeptTraces;
+pub use kept_traces::{KeptParts, KeptTraces};
 pub use sound_store::SoundStore;
 
 // The record: how many activities (document 01: steps, numbers below N) are declared, and how many traces are kept. C passes it as it is,

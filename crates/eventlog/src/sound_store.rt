@@ -2,7 +2,7 @@
 ghost use Rattle.std.specs.Prelude.{◌≡◌, true};
 ghost use Rattle.eventlog.specs.Store.{lent, sound};
 
-use crate::{KeptTraces, Room, Store};
+use crate::{KeptParts, Room, Store};
 
 // A record beside the buffers that it is sound with. The functions before the test are lent the three apart, as C lends them.
 #[derive(Clone, Copy)]
@@ -16,7 +16,7 @@ pub struct SoundStore<'a> {
 impl<'a> SoundStore<'a> {
     ghost use Rattle.std.specs.Prelude.{◌≡◌, false, MatchOption};
     ghost use Rattle.eventlog.specs.Store.{lent, sound, kept, room as room_in};
-    ghost use Rattle.eventlog.specs.SoundStore.{memory_of};
+    ghost use Rattle.eventlog.specs.SoundStore.{memory_of, traces_in};
 
     // The test for soundness.
     pub fn new(store: Store, events: &'a [u8], ends: &'a [u32]) -> Option<SoundStore<'a>>
@@ -40,9 +40,13 @@ impl<'a> SoundStore<'a> {
         crate::room_of(self.store, self.events, self.ends)
     }
 
-    pub fn traces(self) -> KeptTraces<'a>
-        ensures { result ≡ kept (memory_of self.entry) }
+    // What it keeps, without its record.
+    pub fn kept(self) -> KeptParts<'a>
+        ensures { traces_in result ≡ kept (memory_of self.entry) }
     {
-        KeptTraces::new(self.events, &self.ends[..self.store.traces as usize])
+        KeptParts {
+            events: self.events,
+            ends: &self.ends[..self.store.traces as usize],
+        }
     }
 }

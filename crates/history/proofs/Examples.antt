@@ -10,6 +10,7 @@ use Rattle.base.specs.Checks.{Reply, gives, refused}
 use Rattle.base.proofs.Outcomes.{some_outcome}
 use Rattle.declare.specs.Meaning.{meanings, holds, activated, fulfilled}
 use Rattle.declare.specs.Constraints.{constraints}
+use Rattle.eventlog.specs.declared.Space.{Space}
 use Rattle.eventlog.specs.declared.Store.{Store}
 use Rattle.eventlog.specs.Store.{Memory, memory, kept, sound, last_end}
 use Rattle.eventlog.specs.Calls.{declared_front}
@@ -18,8 +19,8 @@ use Rattle.pruning.specs.declared.Settings.{Settings}
 use Rattle.pruning.specs.Question.{fulfilments, support}
 use Rattle.discovery.specs.Listing.{listed, replayed, layout}
 use Rattle.discovery.proofs.Orderless.{alike_just_permuted}
-use Rattle.history.specs.Ledger.{Call, open_for, add, read, find, Shown, only}
-use Rattle.history.specs.Histories.{Called, History, Never1, FindIn, FindAt, ledger_of, Accepted, AlikeFinds, EqualFinds}
+use Rattle.history.specs.Ledger.{Call, open_for, add, read, find, Shown, only, Ledger, first_ledger, next_ledger, room_beside}
+use Rattle.history.specs.Histories.{Called, History, Never1, FindIn, FindAt, ledger_of, ledger_shows, Accepted, AlikeFinds, EqualFinds}
 use Rattle.history.proofs.Existence.{histories_exist}
 
 -- one activity declared, and so many traces kept
@@ -168,6 +169,35 @@ other =
       memory' = last';
       called = finds';
     }
+
+-- ## What the ledger has after a call, and shows of it
+
+abbrev two_kept : Ledger
+two_kept = record { activities = 1; traces = [] ∷ (0 ∷ 0 ∷ 0 ∷ []) ∷ [] }
+
+abbrev with_a_third : List ℕ → Ledger
+with_a_third trace = record { activities = 1; traces = [] ∷ (0 ∷ 0 ∷ 0 ∷ []) ∷ trace ∷ [] }
+
+abbrev roomy : Space
+roomy = record { events = 9; ends = 9 }
+
+learned :
+    (next_ledger roomy two_kept (open_for 2) ≡ first_ledger 2)
+    × (next_ledger roomy two_kept (open_for 0) ≡ two_kept)
+    × (next_ledger roomy two_kept (add []) ≡ with_a_third [])
+    × (next_ledger roomy two_kept (add (0 ∷ [])) ≡ with_a_third (0 ∷ []))
+    × (next_ledger roomy two_kept (add (1 ∷ [])) ≡ two_kept)
+    × (next_ledger roomy two_kept (read a_log) ≡ with_a_third (0 ∷ 0 ∷ []))
+    × (room_beside roomy two_kept ≡ record { activities = 1; traces = 2; last = 3; space = roomy })
+unfolding lines log_checks spelled declared_front
+learned = (refl, refl, refl, refl, refl, refl, refl)
+
+-- each call is shown by the ledger behind those before it: what is full is 8, and an undeclared activity's place is from the front
+shown_in_turn :
+    ledger_shows (memory (keeping 0) (7 ∷ 7 ∷ 7 ∷ []) (9 ∷ [])) (add (0 ∷ 0 ∷ 1 ∷ 0 ∷ []) ∷ add [] ∷ add [] ∷ read a_log ∷ [])
+    ≡ only (refused 6 3) ∷ only (gives []) ∷ only (refused 8 0) ∷ only (refused 8 1) ∷ []
+unfolding lines log_checks spelled declared_front
+shown_in_turn = refl
 
 -- ## The two finds are alike, and give equal lists and numbers
 

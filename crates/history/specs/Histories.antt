@@ -13,8 +13,8 @@ use Rattle.eventlog.specs.Store.{Memory, memory, with_store, sound, kept, space,
 use Rattle.eventlog.specs.Calls.{empty, Opens, Adds}
 use Rattle.columns.specs.Calls.{Reads}
 use Rattle.pruning.specs.declared.Settings.{Settings}
-use Rattle.pruning.specs.Question.{Question, trace_count, is_listed, survives}
-use Rattle.discovery.specs.Listing.{numbers, layout}
+use Rattle.pruning.specs.Question.{Question, trace_count, survives}
+use Rattle.discovery.specs.Listing.{is_listed, numbers, layout}
 use Rattle.discovery.specs.Claims.{Alike}
 use Rattle.discovery.specs.Calls.{checks_for, Finds}
 use Rattle.history.specs.Ledger.{Call, open_for, add, read, find, Shown, Ledger, first_ledger, room_beside, question, next_ledger, shows}

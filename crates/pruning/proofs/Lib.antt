@@ -1,3 +1,2 @@
-pub mod Counting
 pub mod Occurrence
 pub mod Pruning

@@ -17,8 +17,9 @@ use Rattle.declare.proofs.Summary.{answer}
 use Rattle.base.proofs.Bools.{Expression, implied, fails_too, either}
 use Rattle.base.proofs.Lists.{count_weaker, all_range}
 use Rattle.declare.specs.declared.constraints.Constraint.{Constraint}
+use Rattle.pruning.specs.declared.Measure.{Measure}
 use Rattle.pruning.specs.declared.Class.{Class}
-use Rattle.pruning.specs.Question.{class_of, counts_when, counts_for, fulfilments, support, Question, always, meets, survives_in, survives, is_listed}
+use Rattle.pruning.specs.Question.{class_of, counts_when, counts_for, fulfilments, support, Question, always, measure_of, meets, survives_in, survives}
 
 -- where the template is activated and holds, the trace counts for its class
 abbrev counted : ℕ → Expression 3
@@ -51,20 +52,20 @@ pub fulfilments_within_support : (traces : List (List ℕ)) (c : Constraint) →
 unfolding fulfilments support
 fulfilments_within_support traces c = count_weaker _ _ (fulfilled_counts c.template c.a c.b) traces
 
-pub meets_more : (threshold r x y : ℕ) → x ≤ y → meets threshold r x ≡ true → meets threshold r y ≡ true
-meets_more threshold r x y h m = le-leb (threshold * r) (1000 * y) (omega (arith, leb-true (threshold * r) (1000 * x) m))
+pub meets_more : (m : Measure) (x y : ℕ) → x ≤ y → meets m x ≡ true → meets m y ≡ true
+meets_more m x y h e = le-leb _ (1000 * y) (omega (arith, leb-true _ (1000 * x) e))
 
--- a constraint to be listed is kept by pruning, so what is pruned would not have been listed
-pub listed_survives : (q : Question) (c : Constraint) → is_listed q c ≡ true → survives q c ≡ true
-listed_survives q c h =
-    go (always (class_of c.template)) (meets_more _ _ _ _ (fulfilments_within_support q.traces c) h)
+-- a constraint whose count meets the threshold is kept by pruning, so what is pruned would not have been listed
+pub fulfilled_survives : (q : Question) (c : Constraint) → meets (measure_of q) (fulfilments q.traces c) ≡ true → survives q c ≡ true
+fulfilled_survives q c h =
+    go (always (class_of c.template)) (meets_more (measure_of q) _ _ (fulfilments_within_support q.traces c) h)
   where
     go : (p : Bool) {r : Bool} → r ≡ true → p || r ≡ true
     go true h = refl
     go false h = h
 
-pub pruned_not_listed : (q : Question) (c : Constraint) → survives q c ≡ false → is_listed q c ≡ false
-pruned_not_listed q c = fails_too _ _ (listed_survives q c)
+pub pruned_falls_short : (q : Question) (c : Constraint) → survives q c ≡ false → meets (measure_of q) (fulfilments q.traces c) ≡ false
+pruned_falls_short q c = fails_too _ _ (fulfilled_survives q c)
 
 -- whether a constraint of its template's class is kept
 pub class_survives : {class : Class} (q : Question) (c : Constraint) → class ≡ class_of c.template → survives_in class q c ≡ survives q c

@@ -1,8 +1,8 @@
 -- What a query asks.
 -- Assumes nothing.
-use Rattle.eventlog.specs.SoundStore.{memory_of}
+use Rattle.eventlog.specs.SoundStore.{traces_in}
 use Rattle.pruning.specs.declared.Query.{Query}
-use Rattle.pruning.specs.Question.{Question, asked}
+use Rattle.pruning.specs.Question.{Question, question_over}
 
 abbrev pub asked_by : Query → Question
-asked_by query = asked (memory_of query.sound) query.settings
+asked_by query = question_over query.measure.activities (traces_in query.kept) query.measure.settings

@@ -1,10 +1,11 @@
--- A question to the finder: the constraints' counts, which of them meet the threshold, and which pruning keeps.
+-- A question to the finder: what meets its threshold, the constraints' counts, and which of them pruning keeps.
 -- Assumes nothing.
 use Rattle.std.specs.Prelude.{ℕ, ◌*◌, Bool, true, false, ◌&&◌, ◌||◌, List, eqb, leb, length, if◌then◌else◌}
 use Rattle.base.specs.Logic.{in_range}
 use Rattle.declare.specs.Meaning.{occurs, fulfilled}
 use Rattle.eventlog.specs.Store.{Memory, kept}
 use Rattle.pruning.specs.declared.Settings.{Settings}
+use Rattle.pruning.specs.declared.Measure.{Measure}
 use Rattle.pruning.specs.declared.Class.{Class}
 use Rattle.pruning.specs.declared.Class.TheVariants.{WithA, All, Either, Both}
 use Rattle.declare.specs.declared.constraints.Constraint.{Constraint}
@@ -33,12 +34,13 @@ trace_count q = length q.traces
 abbrev pub threshold_in_range : Settings → Bool
 threshold_in_range settings = in_range 1 settings.threshold 1000
 
--- a number of traces meets the threshold over all of them: 1000 × number ≥ threshold × all, nothing rounded
-abbrev pub meets : ℕ → ℕ → ℕ → Bool
-meets threshold all number = leb (threshold * all) (1000 * number)
+-- what its constraints and their counts are measured by
+abbrev pub measure_of : Question → Measure
+measure_of q = record { activities = q.activities; settings = q.settings; traces = trace_count q }
 
-abbrev pub meets_threshold : Question → ℕ → Bool
-meets_threshold q number = meets q.settings.threshold (trace_count q) number
+-- a number of traces meets the threshold over R traces: 1000 × number ≥ threshold × R, nothing rounded
+abbrev pub meets : Measure → ℕ → Bool
+meets m number = leb (m.settings.threshold * m.traces) (1000 * number)
 
 -- the traces fulfilled for a constraint
 unfoldable pub fulfilments : List (List ℕ) → Constraint → ℕ
@@ -75,12 +77,8 @@ always Both = false
 
 -- pruning keeps a constraint of this class: 4 to 6 always, the others when the traces of their class meet the threshold
 abbrev pub survives_in : Class → Question → Constraint → Bool
-survives_in class q c = always class || meets_threshold q (support class q.traces c)
+survives_in class q c = always class || meets (measure_of q) (support class q.traces c)
 
 -- pruning keeps the constraint: the template's number settles the class
 abbrev pub survives : Question → Constraint → Bool
 survives q c = survives_in (class_of c.template) q c
-
--- the constraint's count meets the threshold
-abbrev pub is_listed : Question → Constraint → Bool
-is_listed q c = meets_threshold q (fulfilments q.traces c)

@@ -1,15 +1,15 @@
 // What a find asks of a store that is known to be sound, and which constraints pruning keeps for it. No replayer can be reached from here.
 #![tactic(auto)]
 
-ghost use Rattle.std.specs.Prelude.{◌≡◌, ◌==◌, ◌&&◌, length, filter};
-ghost use Rattle.std.specs.List.{list_any};
+ghost use Rattle.std.specs.Prelude.{◌≡◌, ◌≤◌, ◌==◌, ◌&&◌, true, length, filter};
+ghost use Rattle.std.specs.List.{list_any, list_all};
 ghost use Rattle.base.specs.Lists.{non_empty};
-ghost use Rattle.eventlog.specs.Store.{kept};
-ghost use Rattle.eventlog.specs.SoundStore.{memory_of};
-ghost use Rattle.pruning.specs.Question.{asked, threshold_in_range, meets_threshold, trace_count as trace_count_of, class_of, counts_for, support as support_of, survives_in};
+ghost use Rattle.declare.specs.Traces.{most_activities, all_below};
+ghost use Rattle.eventlog.specs.SoundStore.{memory_of, traces_in};
+ghost use Rattle.pruning.specs.Question.{asked, measure_of, threshold_in_range, meets, class_of, counts_for, support as support_of, survives_in};
 
 use declare::Constraint;
-use eventlog::SoundStore;
+use eventlog::{KeptParts, SoundStore};
 
 pub const MOST_THRESHOLD: u32 = 1000;
 
@@ -28,13 +28,31 @@ impl Settings {
     }
 }
 
-// The store, the settings, and R, which is counted once a find.
-#[derive(Clone, Copy)]
-pub struct Query<'a> {
-    pub sound: SoundStore<'a>,
+// What constraints and their counts are measured by: N, the settings, and R, the traces of length 1 or more.
+#[derive(Clone, Copy, Debug, PartialEq, Eq)]
+pub struct Measure {
+    pub activities: u32,
     pub settings: Settings,
     pub traces: u32,
-    ghost counted: { traces ≡ trace_count_of (asked (memory_of sound) settings) },
+}
+
+impl Measure {
+    // 1000 times the number is at least the threshold times R; nothing is rounded.
+    pub fn meets(self, number: u32) -> bool
+        ensures { result ≡ meets self number }
+    {
+        u64::from(self.settings.threshold) * u64::from(self.traces) <= 1000 * u64::from(number)
+    }
+}
+
+// What a find asks of a store that is sound: what it keeps, and the measure, for which R is counted once a find.
+#[derive(Clone, Copy)]
+pub struct Query<'a> {
+    pub kept: KeptParts<'a>,
+    pub measure: Measure,
+    ghost counted: { measure.traces ≡ length (filter non_empty (traces_in kept)) },
+    ghost few_activities: { measure.activities ≤ most_activities },
+    ghost declared: { list_all (all_below measure.activities) (traces_in kept) ≡ true },
 }
 
 // The classes of pruning: by the traces with a, by all of them, by those with a or b, by those with both.
@@ -82,48 +100,46 @@ fn counts_for(class: Class, a: u8, b: u8, trace: &[u8]) -> bool
 }
 
 // R: how many kept traces are of length 1 or more.
-#[tactic(auto, using(crate::proofs::Counting::few_kept))]
-fn trace_count(sound: SoundStore) -> u32
-    ensures { result ≡ length (filter non_empty (kept (memory_of sound.entry))) }
+#[tactic(auto, using(eventlog::proofs::Counting::few_traces))]
+fn trace_count(kept: KeptParts) -> u32
+    ensures { result ≡ length (filter non_empty (traces_in kept.entry)) }
 {
-    sound.traces().filter(|trace| !trace.is_empty()).count() as u32
+    kept.traces().filter(|trace| !trace.is_empty()).count() as u32
+}
+
+// How many kept traces of length 1 or more count for a class, by a constraint's activities.
+#[tactic(auto, using(eventlog::proofs::Counting::few_traces))]
+fn support(kept: KeptParts, c: Constraint, class: Class) -> u32
+    ensures { result ≡ support_of class (filter non_empty (traces_in kept.entry)) c }
+{
+    kept.traces()
+        .filter(|trace| counts_for(class, c.a, c.b, trace))
+        .count() as u32
 }
 
 impl<'a> Query<'a> {
+    ghost use Rattle.eventlog.specs.Store.{kept};
     ghost use Rattle.pruning.specs.Query.{asked_by};
 
     pub fn new(sound: SoundStore<'a>, settings: Settings) -> Query<'a>
-        ensures { (memory_of result.sound ≡ memory_of sound.entry) × (result.settings ≡ settings) }
+        ensures kept { traces_in result.kept ≡ kept (memory_of sound.entry) }
+        ensures measure { result.measure ≡ measure_of (asked (memory_of sound.entry) settings) }
     {
+        let kept = sound.kept();
         Query {
-            sound,
-            settings,
-            traces: trace_count(sound),
+            kept,
+            measure: Measure {
+                activities: sound.store.activities,
+                settings,
+                traces: trace_count(kept),
+            },
         }
-    }
-
-    // 1000 times the number is at least the threshold times all; nothing is rounded.
-    pub fn meets(self, number: u32) -> bool
-        ensures { result ≡ meets_threshold (asked_by self.entry) number }
-    {
-        u64::from(self.settings.threshold) * u64::from(self.traces) <= 1000 * u64::from(number)
-    }
-
-    // How many kept traces of length 1 or more count for a class, by a constraint's activities.
-    #[tactic(auto, using(crate::proofs::Counting::few_kept))]
-    fn support(self, c: Constraint, class: Class) -> u32
-        ensures { result ≡ support_of class (asked_by self.entry).traces c }
-    {
-        self.sound
-            .traces()
-            .filter(|trace| counts_for(class, c.a, c.b, trace))
-            .count() as u32
     }
 
     // Whether pruning keeps a constraint whose template is of this class. Nothing is counted for a class that it keeps always.
     pub fn survives(self, c: Constraint, class: Class) -> bool
         ensures { result ≡ survives_in class (asked_by self.entry) c }
     {
-        class == Class::All || self.meets(self.support(c, class))
+        class == Class::All || self.measure.meets(support(self.kept, c, class))
     }
 }

@@ -16,7 +16,7 @@ abbrev pub sealed : ℕ → SealedAutomaton
 sealed template = record { automaton = automaton template }
 
 -- a constraint over the declared activities that pruning keeps, beside its template's automaton
-pub record Kept (q : Question) (automaton : SealedAutomaton) (c : Constraint) : Type 0 where
+pub record Replayable (q : Question) (automaton : SealedAutomaton) (c : Constraint) : Type 0 where
   pub over : Over q.activities c
   pub survived : survives q c ≡ true
   pub of_template : automaton ≡ sealed c.template

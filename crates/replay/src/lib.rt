@@ -3,12 +3,15 @@
 #![tactic(auto)]
 
 ghost use Rattle.std.specs.Prelude.{◌≡◌, true};
-ghost use Rattle.base.specs.Lists.{non_empty};
+ghost use Rattle.std.specs.List.{filter};
+ghost use Rattle.base.specs.Lists.{non_empty, count};
+ghost use Rattle.eventlog.specs.SoundStore.{traces_in};
 ghost use Rattle.pruning.specs.Query.{asked_by};
-ghost use Rattle.replay.specs.Replays.{sealed, Kept, Replays, replays_fulfilled};
+ghost use Rattle.replay.specs.Replays.{sealed, Replayable, Replays, replays_fulfilled};
 
 use automata::{Automaton, Moves};
 use declare::{Constraint, Verdict};
+use eventlog::KeptParts;
 use pruning::Query;
 
 // A template's automaton, with which nothing can be done but to hand it to `replay`.
@@ -43,20 +46,25 @@ fn is_fulfilled(moves: &Moves, trace: &[u8]) -> bool
     moves.verdict(trace) == Verdict::Fulfilled
 }
 
+// How many traces of length 1 or more are fulfilled, by a constraint's moves. This loop knows nothing of pruning.
+fn fulfilled_by(moves: &Moves, kept: KeptParts) -> u32
+    ensures { result ≡ count (replays_fulfilled moves.now) (filter non_empty (traces_in kept.entry)) }
+{
+    // Added up, and not filtered and counted: a sum makes no jump, and where traces are short that shows.
+    kept.traces()
+        .map(|trace| u32::from(!trace.is_empty() && is_fulfilled(moves, trace)))
+        .sum()
+}
+
 // Replays a constraint over the store, by its template's automaton. Only what pruning keeps may be replayed. The moves are made once for all
 // its traces.
 pub fn replay(query: Query, c: Constraint, automaton: SealedAutomaton, replayed: u32) -> Replayed
-    requires { Kept (asked_by query) automaton c }
+    requires { Replayable (asked_by query) automaton c }
     ensures { Replays (asked_by query.entry) c replayed result }
 {
     let moves = automaton.automaton.moves(c.a, c.b);
-    let traces = query.sound.traces();
-    // Added up, and not filtered and counted: a sum makes no jump, and where traces are short that shows.
-    let fulfilled = traces
-        .map(|trace| u32::from(!trace.is_empty() && is_fulfilled(&moves, trace)))
-        .sum();
     Replayed {
-        fulfilled,
+        fulfilled: fulfilled_by(&moves, query.kept),
         replayed: u64::from(replayed) + 1,
     }
 }

@@ -13,7 +13,8 @@ use Rattle.base.proofs.Lists.{flat_map_append}
 use Rattle.base.proofs.Stores.{sets_append}
 use Rattle.fields.proofs.Columns.{part_filled}
 use Rattle.report.specs.declared.text.Text.{Text}
-use Rattle.report.specs.Puts.{Puts, Adds, counted, printed_line, lines_of}
+use Rattle.discovery.specs.Listing.{from_row}
+use Rattle.report.specs.Puts.{Puts, Adds, printed_line, lines_of}
 
 put_then :
     {out out' out'' xs ys : List ℕ} {at m n next next' : ℕ} →
@@ -72,8 +73,8 @@ first_rows n (suc k) (suc m) list h = ap (λ (rows : List (List ℕ)). take n li
 -- the lines of one row more
 pub lines_more :
     (rows : List (List ℕ)) (k : ℕ) → k < length rows →
-    lines_of (take (k + 1) rows) ≡ lines_of (take k rows) ++ printed_line (counted (get_or rows k []))
+    lines_of (take (k + 1) rows) ≡ lines_of (take k rows) ++ printed_line (from_row (get_or rows k []))
 lines_more rows k h =
     ap lines_of (take_more rows k [] h)
-    ∙ flat_map_append (λ row. printed_line (counted row)) (take k rows) (get_or rows k [] ∷ [])
-    ∙ ap (λ (l : List ℕ). lines_of (take k rows) ++ l) (append-nil (printed_line (counted (get_or rows k []))))
+    ∙ flat_map_append (λ row. printed_line (from_row row)) (take k rows) (get_or rows k [] ∷ [])
+    ∙ ap (λ (l : List ℕ). lines_of (take k rows) ++ l) (append-nil (printed_line (from_row (get_or rows k []))))

@@ -1,10 +1,11 @@
 -- What the functions that write text promise each other. Nothing here has to be believed: proofs/Puts.antt and Reporting.antt show that it
 -- comes to the definitions of `Print`.
 -- Assumes nothing.
-use Rattle.std.specs.Prelude.{ℕ, ◌+◌, ◌≤◌, ◌≡◌, List, length, get_or}
+use Rattle.std.specs.Prelude.{ℕ, ◌+◌, ◌≤◌, ◌≡◌, List, length}
 use Rattle.std.proofs.lemmas.List.Edits.{sets}
 use Rattle.base.specs.Lists.{flat_map}
-use Rattle.report.specs.declared.text.Counted.{Counted}
+use Rattle.discovery.specs.declared.row.Row.{Row}
+use Rattle.discovery.specs.Listing.{from_row}
 use Rattle.report.specs.declared.text.Text.{Text}
 use Rattle.report.specs.Print.{constraint_line}
 
@@ -21,13 +22,9 @@ pub record Adds (t : Text) (size : ℕ) (text : List ℕ) (t' : Text) : Type 0 w
   pub same_length : length t'.out.now ≡ length t.out.now
   pub same_out : t'.out.ghost_name ≡ t.out.ghost_name
 
--- the constraint that a row of the list holds, and its line
-abbrev pub counted : List ℕ → Counted
-counted row = record { template = get_or row 0 0; a = get_or row 1 0; b = get_or row 2 0; count = get_or row 3 0 }
-
-abbrev pub printed_line : Counted → List ℕ
-printed_line c = constraint_line c.template c.a c.b c.count
+abbrev pub printed_line : Row → List ℕ
+printed_line row = constraint_line row.template row.a row.b row.fulfilled
 
 -- the lines of rows of the list
 abbrev pub lines_of : List (List ℕ) → List ℕ
-lines_of rows = flat_map rows λ row. printed_line (counted row)
+lines_of rows = flat_map rows λ row. printed_line (from_row row)

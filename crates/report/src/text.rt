@@ -1,9 +1,8 @@
 // The text that is printed, put into a lent slice.
 ghost use Rattle.std.specs.Prelude.{◌+◌, ◌*◌, ◌≤◌, ◌≡◌, length};
-ghost use Rattle.report.specs.Puts.{counted};
 
 use answers::Refusal;
-use discovery::{Found, NUMBERS};
+use discovery::{Found, NUMBERS, Row};
 
 // The columns of a refusal's line: its number, its detail.
 const NUMBER_WIDTH: usize = 2;
@@ -24,28 +23,6 @@ const COUNT_WIDTH: usize = 5;
 pub(crate) const FIRST_LINE: usize = 3 * FIRST_WIDTH + 1;
 
 pub(crate) const CONSTRAINT_LINE: usize = TEMPLATE_WIDTH + 2 * ACTIVITY_WIDTH + COUNT_WIDTH + 1;
-
-// A constraint of the list, with its count.
-#[derive(Clone, Copy)]
-struct Counted {
-    template: u16,
-    a: u16,
-    b: u16,
-    count: u16,
-}
-
-impl From<[u16; NUMBERS]> for Counted {
-    ghost from_gives = { λ row c. c ≡ counted row };
-
-    fn from([template, a, b, count]: [u16; NUMBERS]) -> Counted {
-        Counted {
-            template,
-            a,
-            b,
-            count,
-        }
-    }
-}
 
 // The text so far stands in the lent slice before a place.
 // Put by `fields` and not by `write!`, no plainer: these bytes are the ones of which a law says that they read back as the number.
@@ -91,7 +68,7 @@ impl<'a> Text<'a> {
     }
 
     // The second activity of a constraint, blank for templates 1 to 8.
-    fn put_second(&mut self, c: Counted)
+    fn put_second(&mut self, c: Row)
         requires { self.old.at + activity_width ≤ length self.old.out.now }
         ensures { Adds self.old activity_width (second_field c.template c.b) self.new }
     {
@@ -102,14 +79,14 @@ impl<'a> Text<'a> {
         }
     }
 
-    fn put_constraint(&mut self, c: Counted)
+    fn put_constraint(&mut self, c: Row)
         requires { self.old.at + constraint_line_size ≤ length self.old.out.now }
         ensures { Adds self.old constraint_line_size (printed_line c) self.new }
     {
         self.put_number(TEMPLATE_WIDTH, usize::from(c.template));
         self.put_number(ACTIVITY_WIDTH, usize::from(c.a));
         self.put_second(c);
-        self.put_number(COUNT_WIDTH, usize::from(c.count));
+        self.put_number(COUNT_WIDTH, usize::from(c.fulfilled));
         self.put_line_feed();
     }
 

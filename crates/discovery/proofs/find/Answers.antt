@@ -1,11 +1,12 @@
 -- The list is that of the pass over the constraints, where every check passed.
-use Rattle.std.proofs.Common.{length, sym, ap, ap₂, subst, ◌∙◌, ◌≡◌, rules}
+use Rattle.std.proofs.Common.{ℕ, List, length, sym, ap, ap₂, subst, ◌∙◌, ◌≡◌, rules}
 use Rattle.declare.specs.Constraints.{constraints}
 use Rattle.eventlog.specs.Store.{lent}
 use Rattle.eventlog.specs.SoundStore.{memory_of}
-use Rattle.pruning.specs.Question.{asked, trace_count}
+use Rattle.pruning.specs.declared.Measure.{Measure}
+use Rattle.pruning.specs.Question.{question_over, asked, trace_count}
 use Rattle.discovery.specs.Listing.{listed}
-use Rattle.discovery.specs.Passes.{fit_of, Passes, none_yet}
+use Rattle.discovery.specs.Passes.{fit_of, Considers, none_yet}
 use Rattle.discovery.proofs.FindContract.{finds_listed}
 use Rattle.discovery.proofs.find.Goals as goal
 
@@ -14,12 +15,15 @@ returns c =
     let m = lent c.args.store c.args.events.now c.args.ends.now in
     let list = c.args.list.now in
     let memory : memory_of c.in_ok-sound.sound ≡ m = search rules in
-    let asks = ap₂ asked (c.new-query.ensures.0 ∙ memory) c.new-query.ensures.1 in
+    let made = c.new-query.ensures in
+    let asks =
+    ap₂ (λ (measure : Measure) (traces : List (List ℕ)). question_over measure.activities traces measure.settings) made.measure made.kept
+    ∙ ap (λ m. asked m c.args.settings) memory in
     finds_listed m c.args.settings
     (rw memory at c.in_ok-sound.sound.is_sound)
     (sym c.in_range.ensures ∙ c.if-not-in_range.false)
     (c.new-query.result.counted ∙ ap trace_count asks)
     c.if-query-eq0.false
     (ap (λ q. fit_of (length (listed q)) list) (sym asks) ∙ sym c.look.ensures.fit ∙ c.in_ok-look.was {u = tt})
-    (subst (λ q. Passes q (constraints q.activities) none_yet list c.pass-tally.result c.pass-tally.new.list) asks
+    (subst (λ q. Considers q (constraints q.activities) none_yet list c.pass-tally.result c.pass-tally.new.list) asks
     (rw c.look.ensures.list_unchanged at c.pass-tally.ensures))

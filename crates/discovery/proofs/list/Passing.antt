@@ -2,7 +2,7 @@
 -- Assumes nothing.
 use Prim.Native.Nat.{ℕ, ◌+◌, ◌*◌, ◌≤◌}
 use mathlib.Core.Path.{◌≡◌, refl, sym, ap, subst, ◌∙◌}
-use mathlib.Core.Bool.{true, false}
+use mathlib.Core.Bool.{Bool, true, false, cond}
 use mathlib.Core.List.Memᴰ
 use mathlib.Core.List.{List, [], ◌∷◌, ◌++◌, append_assoc, append-nil, Memᴰ}
 use native.Mathlib.Omega.{arith}
@@ -16,76 +16,124 @@ use Rattle.declare.specs.declared.constraints.Constraint.{Constraint}
 use Rattle.declare.specs.Meaning.{fulfilled}
 use Rattle.declare.specs.Constraints.{constraints, Over}
 use Rattle.declare.proofs.constraints.Members.{constraints_number, constraints_over}
-use Rattle.eventlog.specs.Store.{Memory, sound, kept}
-use Rattle.pruning.specs.declared.Settings.{Settings}
+use Rattle.eventlog.specs.Store.{most_traces}
+use Rattle.eventlog.specs.SoundStore.{traces_in}
+use Rattle.eventlog.proofs.Counting.{few_traces}
+use Rattle.pruning.specs.declared.Query.{Query}
+use Rattle.pruning.specs.Query.{asked_by}
 use Rattle.discovery.specs.declared.list.Tally.{Tally}
-use Rattle.pruning.specs.Question.{Question, asked, meets_threshold, fulfilments, survives, is_listed}
-use Rattle.discovery.specs.Listing.{numbers, layout}
+use Rattle.pruning.specs.declared.Measure.{Measure}
+use Rattle.pruning.specs.Question.{Question, measure_of, fulfilments, survives}
+use Rattle.discovery.specs.declared.row.Counts.{Counts}
+use Rattle.discovery.specs.Listing.{lists, numbers, row, rows, is_listed}
 use Rattle.replay.specs.declared.Replayed.{Replayed}
 use Rattle.replay.specs.Replays.{Replays}
-use Rattle.discovery.specs.Passes.{Passes, TallyFits, none_yet}
-use Rattle.pruning.proofs.Pruning.{pruned_not_listed}
-use Rattle.discovery.proofs.Listing.{layout_length}
-use Rattle.pruning.proofs.Counting.{few_kept}
+use Rattle.discovery.specs.Passes.{Passes, Considers, TallyFits, none_yet}
+use Rattle.pruning.proofs.Pruning.{pruned_falls_short}
+use Rattle.discovery.proofs.Listing.{rows_length}
 
-layout_append : (q : Question) (cs ds : List Constraint) → layout q (cs ++ ds) ≡ layout q cs ++ layout q ds
-unfolding layout
-layout_append q cs ds = flat_map_append _ cs ds
+-- a query's measure is that of its question
+pub measured : (query : Query) → query.measure ≡ measure_of (asked_by query)
+measured query = ap (λ (n : ℕ). record { activities = query.measure.activities; settings = query.measure.settings; traces = n }) query.counted
 
--- the fulfilled traces of a sound memory are few
-pub fulfilments_few : (m : Memory) → sound m ≡ true → (settings : Settings) (c : Constraint) → fulfilments (asked m settings).traces c ≤ 4095
+-- the fulfilled traces are few
+pub fulfilments_few : (query : Query) (c : Constraint) → fulfilments (asked_by query).traces c ≤ most_traces
 unfolding fulfilments
-fulfilments_few m h settings c =
-    omega (arith, count_at_most (fulfilled c.template c.a c.b) (asked m settings).traces, count_at_most non_empty (kept m), few_kept m h)
+fulfilments_few query c =
+    let traces = traces_in query.kept in
+    omega (
+      arith,
+      count_at_most (fulfilled c.template c.a c.b) (filter non_empty traces),
+      count_at_most non_empty traces,
+      few_traces query.kept,
+    )
 
--- ## Passing
+module _ (counts : Constraint → Counts) where
+  rows_append : (cs ds : List Constraint) → rows counts (cs ++ ds) ≡ rows counts cs ++ rows counts ds
+  rows_append cs ds = flat_map_append _ cs ds
 
-module _ {q : Question} where
-  pub passes_none : {t : Tally} {list : List ℕ} → Passes q [] t list t list
-  unfolding layout
-  passes_none = record { listed = omega arith; replayed = omega arith; written = refl }
+-- ## Passing over constraints of any counts
 
-  module _ {c : Constraint} {t : Tally} {list : List ℕ} where
-    pub passes_pruned : survives q c ≡ false → Passes q (c ∷ []) t list t list
-    unfolding layout
-    passes_pruned pruned =
-        let not_listed = pruned_not_listed q c pruned in
-        record { listed = rw not_listed (omega arith); replayed = rw pruned (omega arith); written = rw not_listed }
+module _ {m : Measure} {counts : Constraint → Counts} where
+  passes_none : {before : ℕ} {list : List ℕ} → Passes m counts [] before list before list
+  passes_none = record { listed = omega arith; written = refl }
 
-    module _ {r : Replayed} (replays : Replays q c t.replayed r) (kept : survives q c ≡ true) where
-      pub passes_unlisted :
-          meets_threshold q r.fulfilled ≡ false → Passes q (c ∷ []) t list (record { listed = t.listed; replayed = r.replayed }) list
-      unfolding layout
-      passes_unlisted fails =
-          let not_listed : is_listed q c ≡ false = rw (← replays.fulfilled) fails in
-          record { listed = rw not_listed (omega arith); replayed = rw kept replays.counted; written = rw not_listed }
+  module _ {c : Constraint} {before : ℕ} {list : List ℕ} where
+    pub passes_unlisted : lists m (counts c) ≡ false → Passes m counts (c ∷ []) before list before list
+    passes_unlisted falls_short = record { listed = rw falls_short (omega arith); written = rw falls_short }
 
-      pub passes_listed :
-          {list' : List ℕ} → meets_threshold q r.fulfilled ≡ true → list' ≡ sets list (numbers * t.listed) (c.template ∷ c.a ∷ c.b ∷ r.fulfilled ∷ []) →
-          Passes q (c ∷ []) t list (record { listed = t.listed + 1; replayed = r.replayed }) list'
-      unfolding layout
-      passes_listed meets written =
-          let is_listed : is_listed q c ≡ true = rw (← replays.fulfilled) meets in
-          record { listed = rw is_listed; replayed = rw kept replays.counted; written = rw (is_listed, ← replays.fulfilled) written }
+    pub passes_listed :
+        {list' : List ℕ} → lists m (counts c) ≡ true → list' ≡ sets list (numbers * before) (row c (counts c)) →
+        Passes m counts (c ∷ []) before list (before + 1) list'
+    passes_listed meets written = record { listed = rw meets; written = rw meets written }
 
   passes_append :
-      {cs ds : List Constraint} {t t' t'' : Tally} {list list' list'' : List ℕ} →
-      Passes q cs t list t' list' → Passes q ds t' list' t'' list'' → Passes q (cs ++ ds) t list t'' list''
-  passes_append {cs} {ds} {t} {t'} p p' =
-      let ours = filter (is_listed q) cs in
-      let place : numbers * t'.listed ≡ numbers * t.listed + length (layout q ours) = omega (arith, p.listed, layout_length q ours) in
+      {cs ds : List Constraint} {k k' k'' : ℕ} {list list' list'' : List ℕ} →
+      Passes m counts cs k list k' list' → Passes m counts ds k' list' k'' list'' → Passes m counts (cs ++ ds) k list k'' list''
+  passes_append {cs} {ds} {k} {k'} p p' =
+      let listed : Constraint → Bool = λ c. lists m (counts c) in
+      let ours = filter listed cs in
+      let place : numbers * k' ≡ numbers * k + length (rows counts ours) = omega (arith, p.listed, rows_length counts ours) in
       record {
-        listed = omega (arith, p.listed, p'.listed, count_append (is_listed q) cs ds);
-        replayed = omega (arith, p.replayed, p'.replayed, count_append (survives q) cs ds);
+        listed = omega (arith, p.listed, p'.listed, count_append listed cs ds);
         written =
             p'.written
-            ∙ rw (p.written, place, filter_append (is_listed q) cs ds, layout_append q ours, sets_append (layout q ours));
+            ∙ rw (p.written, place, filter_append listed cs ds, rows_append counts ours, sets_append (rows counts ours));
+      }
+
+-- of one constraint nothing but its own counts matters
+passes_by :
+    {m : Measure} {counts counts' : Constraint → Counts} {c : Constraint} {before after : ℕ} {list list' : List ℕ} →
+    counts c ≡ counts' c → Passes m counts (c ∷ []) before list after list' → Passes m counts' (c ∷ []) before list after list'
+passes_by {m} {counts} {counts'} {c} {list = list} same p =
+    record {
+      listed = rw same at p.listed;
+      written = p.written ∙ ap (sets list _) (same_rows (lists m (counts c)) ∙ ap (λ own. rows counts' (cond (lists m own) (c ∷ []) [])) same);
+    }
+  where
+    same_rows : (listed : Bool) → rows counts (cond listed (c ∷ []) []) ≡ rows counts' (cond listed (c ∷ []) [])
+    same_rows true = ap (λ (own : Counts). row c own ++ []) same
+    same_rows false = refl
+
+-- by one constraint no more than one is listed
+pub passes_one :
+    {m : Measure} {counts : Constraint → Counts} {c : Constraint} {before after : ℕ} {list list' : List ℕ} →
+    Passes m counts (c ∷ []) before list after list' → after ≤ before + 1
+passes_one {m} {counts} {c} p = omega (arith, p.listed, count_at_most (λ c. lists m (counts c)) (c ∷ []))
+
+-- ## The finder's passing
+
+module _ {q : Question} where
+  pub considers_none : {t : Tally} {list : List ℕ} → Considers q [] t list t list
+  considers_none = record { passes = passes_none; replayed = omega arith }
+
+  module _ {c : Constraint} {t : Tally} {list : List ℕ} where
+    pub considers_pruned : survives q c ≡ false → Considers q (c ∷ []) t list t list
+    considers_pruned pruned = record { passes = passes_unlisted (pruned_falls_short q c pruned); replayed = rw pruned (omega arith) }
+
+    pub considers_kept :
+        {r : Replayed} {t' : Tally} {list' : List ℕ} → Replays q c t.replayed r → survives q c ≡ true →
+        Passes (measure_of q) (λ c. record { fulfilled = r.fulfilled }) (c ∷ []) t.listed list t'.listed list' → t'.replayed ≡ r.replayed →
+        Considers q (c ∷ []) t list t' list'
+    considers_kept replays kept p counted =
+        record {
+          passes = passes_by (ap (λ (n : ℕ). record { fulfilled = n }) replays.fulfilled) p;
+          replayed = rw kept (counted ∙ replays.counted);
+        }
+
+  considers_append :
+      {cs ds : List Constraint} {t t' t'' : Tally} {list list' list'' : List ℕ} →
+      Considers q cs t list t' list' → Considers q ds t' list' t'' list'' → Considers q (cs ++ ds) t list t'' list''
+  considers_append {cs} {ds} p p' =
+      record {
+        passes = passes_append p.passes p'.passes;
+        replayed = omega (arith, p.replayed, p'.replayed, count_append (survives q) cs ds);
       }
 
 -- ## On the way: some constraints are passed, and the rest are left
 
 pub record Passing (q : Question) (list : List ℕ) (passed rest : List Constraint) (t : Tally) (list' : List ℕ) : Type 0 where
-  pub so_far : Passes q passed none_yet list t list'
+  pub so_far : Considers q passed none_yet list t list'
   pub all : passed ++ rest ≡ constraints q.activities
 
 module _ {q : Question} {list : List ℕ} {passed left : List Constraint} {t : Tally} {list' : List ℕ} (p : Passing q list passed left t list') where
@@ -95,11 +143,11 @@ module _ {q : Question} {list : List ℕ} {passed left : List Constraint} {t : T
       let all = ap length p.all in
       let number = constraints_number q.activities in
       record {
-        listed = omega (arith, p.so_far.listed, count_at_most (is_listed q) passed, length-append passed left, all, number);
+        listed = omega (arith, p.so_far.passes.listed, count_at_most (is_listed q) passed, length-append passed left, all, number);
         replayed = omega (arith, p.so_far.replayed, count_at_most (survives q) passed, length-append passed left, all, number);
       }
 
-  pub passing_done : left ≡ [] → Passes q (constraints q.activities) none_yet list t list'
+  pub passing_done : left ≡ [] → Considers q (constraints q.activities) none_yet list t list'
   passing_done none = rw (← p.all, none, append-nil) p.so_far
 
   module _ {c : Constraint} {rest : List Constraint} (first : left ≡ c ∷ rest) where
@@ -110,5 +158,5 @@ module _ {q : Question} {list : List ℕ} {passed left : List Constraint} {t : T
     passing_over = constraints_over q.activities c (subst (Memᴰ c) all_now (Memᴰ.append_right passed (Memᴰ.head refl)))
 
     pub passing_next :
-        {t' : Tally} {list'' : List ℕ} → Passes q (c ∷ []) t list' t' list'' → Passing q list (passed ++ (c ∷ [])) rest t' list''
-    passing_next one = record { so_far = passes_append p.so_far one; all = append_assoc passed (c ∷ []) rest ∙ all_now }
+        {t' : Tally} {list'' : List ℕ} → Considers q (c ∷ []) t list' t' list'' → Passing q list (passed ++ (c ∷ [])) rest t' list''
+    passing_next one = record { so_far = considers_append p.so_far one; all = append_assoc passed (c ∷ []) rest ∙ all_now }

@@ -1,30 +1,21 @@
-use Rattle.std.proofs.Common.{sym, ◌∙◌, arith}
-use Rattle.eventlog.specs.SoundStore.{memory_of}
-use Rattle.discovery.proofs.Listing.{few_constraints}
-use Rattle.discovery.proofs.list.Passing.{fulfilments_few, passes_unlisted, passes_listed}
+use Rattle.std.proofs.Common.{refl, arith}
+use Rattle.declare.proofs.constraints.Members.{few_numbers}
+use Rattle.discovery.proofs.list.Passing.{measured, fulfilments_few, passes_one, considers_kept}
 use Rattle.discovery.proofs.list.consider.Goals as goal
 
-pub returns-then-not-meets : goal.returns-then-not-meets
-returns-then-not-meets c = passes_unlisted c.replay-replayed.ensures c.requires.kept.survived (sym c.meets.ensures ∙ c.if-not-meets.true)
+pub overflow_cast-counts : goal.overflow_cast-counts
+overflow_cast-counts c = omega (arith, c.replay-replayed.ensures.fulfilled, fulfilments_few c.args.query c.args.walk.constraint)
 
-pub overflow_cast-tally : goal.overflow_cast-tally
-overflow_cast-tally c =
-    let kept = c.args.query.sound in
-    omega (
-      arith,
-      c.replay-replayed.ensures.counted,
-      few_constraints (memory_of kept) c.args.tally.replayed kept.is_sound c.requires.tally_fits.replayed,
-    )
+pub overflow_cast-result : goal.overflow_cast-result
+overflow_cast-result c =
+    let query = c.args.query in
+    omega (arith, passes_one c.enter.ensures, few_numbers query.measure.activities c.args.tally.listed query.few_activities c.requires.tally_fits.listed)
 
-pub overflow_cast-replayed : goal.overflow_cast-replayed
-overflow_cast-replayed c =
-    let kept = c.args.query.sound in
-    omega (arith, c.replay-replayed.ensures.fulfilled, fulfilments_few (memory_of kept) kept.is_sound c.args.query.settings c.args.c)
-
-pub overflow_add-result : goal.overflow_add-result
-overflow_add-result c =
-    let kept = c.args.query.sound in
-    omega (arith, few_constraints (memory_of kept) c.args.tally.listed kept.is_sound c.requires.tally_fits.listed)
+pub overflow_cast-result-2 : goal.overflow_cast-result-2
+overflow_cast-result-2 c =
+    let query = c.args.query in
+    let few = few_numbers query.measure.activities c.args.tally.replayed query.few_activities c.requires.tally_fits.replayed in
+    omega (arith, c.replay-replayed.ensures.counted, few)
 
 pub returns : goal.returns
-returns c = passes_listed c.replay-replayed.ensures c.requires.kept.survived (sym c.meets.ensures ∙ c.if-not-meets.false) c.write.ensures
+returns c = considers_kept c.replay-replayed.ensures c.requires.replayable.survived (rw (measured c.args.query) at c.enter.ensures) refl
