@@ -8,7 +8,6 @@ use mathlib.Core.List.{List, [], ◌∷◌, ◌++◌, map}
 use borrow.Author.Tests.{leb-true, lt-ltb, ltb-true, eqb-true, not-true, ne_eqb}
 use lib.Dec.{eqb, leb, ltb}
 use lib.ListN.{get_or}
-use Rattle.std.specs.List.{list_all}
 use Rattle.base.specs.Lists.{range}
 use Rattle.base.proofs.Lists.{all_weaker, range_at}
 use Rattle.base.proofs.Bools.{and_left, and_right, either, clash}
@@ -16,6 +15,7 @@ use Rattle.declare.specs.declared.constraints.Constraint.{Constraint}
 use Rattle.declare.specs.Meaning.{meanings, holds, activated, verdict}
 use Rattle.automata.specs.Automata.{next_of, verdict_of, letter, follow, stands, automaton, moves_of, start, advance_all, verdict_by}
 use Rattle.declare.specs.Constraints.{pairs, Over}
+use Rattle.declare.specs.Traces.{all_below}
 use Rattle.automata.proofs.Agreement.{follow_right, follow_holds}
 use Rattle.automata.proofs.Shifting.{shifted}
 
@@ -46,11 +46,15 @@ pub follow_append : (template a b k : ℕ) (trace more : List ℕ)
 follow_append template a b k [] more = refl
 follow_append template a b k (x ∷ trace) more = follow_append template a b (next_of template k (letter a b x)) trace more
 
+-- what is declared is so beside more
+pub below_more : (n n' : ℕ) → n ≤ n' → (trace : List ℕ) → all_below n trace ≡ true → all_below n' trace ≡ true
+below_more n n' h = all_weaker (λ x. ltb x n) (λ x. ltb x n') (λ x small. lt-ltb x n' (omega (arith, ltb-true x n small)))
+
 -- a beside itself is as a beside what no event is
-beside_none : (template n a k : ℕ) (trace : List ℕ) → list_all (λ x. ltb x n) trace ≡ true → follow template a a k trace ≡ follow template a n k trace
+beside_none : (template n a k : ℕ) (trace : List ℕ) → all_below n trace ≡ true → follow template a a k trace ≡ follow template a n k trace
 beside_none template n a k [] within = refl
 beside_none template n a k (x ∷ trace) within =
-    let rest = list_all (λ x. ltb x n) trace in
+    let rest = all_below n trace in
     let small = ltb-true x n (and_left (ltb x n) rest within) in
     ap (λ l. follow template a a (next_of template k l) trace) (same_letter small (eqb x a) refl)
     ∙ beside_none template n a (next_of template k (letter a n x)) trace (and_right (ltb x n) rest within)
@@ -65,7 +69,7 @@ module _ {A : Type 0} (read : ℕ → ℕ → A) (meant : ℕ → ℕ → ℕ �
     (apart : (template a b : ℕ) → 1 ≤ template → template ≤ 24 → eqb a b ≡ false → (trace : List ℕ)
     → read template (follow template a b 0 trace) ≡ meant template a b trace)
     (alone : (template a b c : ℕ) (trace : List ℕ) → template ≤ 8 → meant template a b trace ≡ meant template a c trace) where
-  of_constraint : (n : ℕ) (c : Constraint) → Over n c → (trace : List ℕ) → list_all (λ x. ltb x n) trace ≡ true
+  of_constraint : (n : ℕ) (c : Constraint) → Over n c → (trace : List ℕ) → all_below n trace ≡ true
       → read c.template (follow c.template c.a c.b 0 trace) ≡ meant c.template c.a c.b trace
   of_constraint n c over trace within =
       either (eqb c.a c.b)
@@ -76,7 +80,7 @@ module _ {A : Type 0} (read : ℕ → ℕ → A) (meant : ℕ → ℕ → ℕ �
       ∙ alone c.template c.a n c.b trace (low c.template c.a c.b over.paired e))
       (λ e. apart c.template c.a c.b over.from_1 over.to_24 e trace)
 
-module _ (n : ℕ) (c : Constraint) (over : Over n c) (trace : List ℕ) (within : list_all (λ x. ltb x n) trace ≡ true) where
+module _ (n : ℕ) (c : Constraint) (over : Over n c) (trace : List ℕ) (within : all_below n trace ≡ true) where
   -- by the tables, the state that a trace leads to tells whether a constraint over n activities holds
   pub follow_holds_constraint :
       stands (verdict_of c.template (follow c.template c.a c.b 0 trace)) ≡ holds c.template c.a c.b trace
@@ -89,5 +93,5 @@ module _ (n : ℕ) (c : Constraint) (over : Over n c) (trace : List ℕ) (within
       ≡ verdict c.template c.a c.b trace
   followed_constraint few =
       shifted c.template over.from_1 over.to_24 c.a c.b (omega (arith, over.a_declared)) (omega (arith, over.b_declared)) trace
-      (all_weaker (λ x. ltb x n) (λ x. ltb x 32) (λ x h. lt-ltb x 32 (omega (arith, ltb-true x n h))) trace within)
+      (below_more n 32 few trace within)
       ∙ of_constraint verdict_of verdict follow_right alone_verdict n c over trace within

@@ -5,18 +5,18 @@ use native.Mathlib.Omega.{arith}
 use mathlib.Core.Path.{◌≡◌, refl, sym, ap, subst, ◌∙◌}
 use mathlib.Core.Bool.{Bool, true, false, ◌&&◌, ◌||◌}
 use mathlib.Core.List.{List, [], ◌∷◌}
-use borrow.Author.Tests.{eqb-true, eqb-false, ne_eqb, ltb-true, lt-ltb}
-use lib.Dec.{eqb, ltb}
+use borrow.Author.Tests.{eqb-true, eqb-false, ne_eqb}
+use lib.Dec.{eqb}
 use Rattle.std.specs.List.{list_all}
 use Rattle.base.specs.Lists.{range}
 use Rattle.base.proofs.Bools.{either}
-use Rattle.base.proofs.Lists.{all_weaker}
 use Rattle.declare.specs.declared.constraints.Constraint.{Constraint}
 use Rattle.declare.specs.Constraints.{constraint, Over}
 use Rattle.declare.specs.Traces.{all_below}
 use Rattle.automata.specs.Outlook.{State}
 use Rattle.automata.specs.Ahead.{outlook_in, state_number, outlook}
 use Rattle.automata.proofs.Shifting.{at_every_state, follow_small}
+use Rattle.automata.proofs.Following.{below_more}
 use Rattle.automata.proofs.Outlooks.{exclude, outlook_right}
 
 -- ## One test: in which states it matters whether another activity is declared
@@ -34,9 +34,6 @@ same_outlook template k low high small other =
     eqb-true _ _ (rw other at (at_every_state same_anyway all_same_anyway template k low high small))
 
 -- ## The law
-
-below_more : (n n' : ℕ) → n ≤ n' → (trace : List ℕ) → all_below n trace ≡ true → all_below n' trace ≡ true
-below_more n n' h = all_weaker (λ x. ltb x n) (λ x. ltb x n') (λ x small. lt-ltb x n' (omega (arith, ltb-true x n small)))
 
 -- Declaring more activities changes no state, but for template 8 where there was one activity and a step was taken.
 pub more_declared : (n n' : ℕ) (c : Constraint) (trace : List ℕ) (s : ℕ) → n ≤ n' → Over n c → all_below n trace ≡ true

@@ -1,9 +1,36 @@
--- The bounds of open and add, and the place that refusal 6 of add carries, computed from the definitions.
+-- What is sound, the bounds of open and add, and the place that refusal 6 of add carries, computed from the definitions.
 -- Assumes nothing.
-use Rattle.std.specs.Prelude.{ℕ, ◌≡◌, refl, [], ◌∷◌, replicate}
+use Rattle.std.specs.Prelude.{ℕ, ◌≡◌, refl, Bool, true, false, List, [], ◌∷◌, replicate}
 use Rattle.base.specs.Checks.{gives, refused, reply}
 use Rattle.eventlog.specs.declared.Room.{Room}
+use Rattle.eventlog.specs.Store.{memory, last_end, sound}
 use Rattle.eventlog.specs.Calls.{open_checks, declared_front, add_checks}
+
+-- so many activities declared and traces kept, beside these events and ends
+abbrev is_sound : ℕ → ℕ → List ℕ → List ℕ → Bool
+is_sound activities traces events ends = sound (memory (record { activities = activities; traces = traces }) events ends)
+
+-- N is 1 to 32; no more traces than 4095, or than ends; no end below the one before it, or more than 4096 above it; the last end within the
+-- events; each event before it below N, and no other asked
+soundness :
+    (is_sound 0 0 [] [] ≡ false)
+    × (is_sound 1 0 [] [] ≡ true)
+    × (is_sound 32 0 [] [] ≡ true)
+    × (is_sound 33 0 [] [] ≡ false)
+    × (is_sound 2 4095 [] (replicate 4096 0) ≡ true)
+    × (is_sound 2 4096 [] (replicate 4096 0) ≡ false)
+    × (is_sound 2 1 [] (0 ∷ []) ≡ true)
+    × (is_sound 2 2 [] (0 ∷ []) ≡ false)
+    × (is_sound 2 3 (0 ∷ 1 ∷ []) (1 ∷ 1 ∷ 2 ∷ []) ≡ true)
+    × (is_sound 2 3 (0 ∷ 1 ∷ []) (1 ∷ 2 ∷ 1 ∷ []) ≡ false)
+    × (is_sound 2 2 (0 ∷ 1 ∷ []) (1 ∷ 2 ∷ 1 ∷ []) ≡ true)
+    × (is_sound 2 2 (replicate 4097 0) (1 ∷ 4097 ∷ []) ≡ true)
+    × (is_sound 2 1 (replicate 4097 0) (4097 ∷ []) ≡ false)
+    × (is_sound 2 1 (0 ∷ []) (2 ∷ []) ≡ false)
+    × (is_sound 2 1 (0 ∷ 2 ∷ 9 ∷ []) (2 ∷ []) ≡ false)
+    × (is_sound 2 1 (0 ∷ 1 ∷ 2 ∷ []) (2 ∷ []) ≡ true)
+unfolding sound last_end
+soundness = (refl, refl, refl, refl, refl, refl, refl, refl, refl, refl, refl, refl, refl, refl, refl, refl)
 
 -- two activities declared, no trace kept, room for one trace of four events
 abbrev small : Room
