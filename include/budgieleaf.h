@@ -11,9 +11,11 @@
  *
  * WHAT IS LENT
  *   store    2 numbers, the record of a store: store[0] is N, the number of declared activities; store[1] is the number
- *            of traces kept. `budgieleaf_open` sets both. Keep it with its two buffers.
+ *            of traces kept. `budgieleaf_open` sets both. Keep it with its three buffers.
  *   events   the kept activities, one byte each, trace after trace. `events_length` is the room, in bytes.
  *   ends     the k-th number is the length of the first k traces together. `ends_length` is the room, in numbers.
+ *   words    one number for each kept trace: bit s (1u << s) is set just when activity s occurs in it, so that an empty
+ *            trace's is 0. `words_length` is the room, in numbers.
  *   answer   3 numbers that the call writes, refused or not: see each call.
  * A length counts elements and not bytes. What is lent must be there in full, at its type's alignment, for the whole
  * call, and what a call writes must not overlap anything else that it is lent. No pointer may be null, also where its
@@ -22,26 +24,26 @@
  *
  * WHAT IS RETURNED
  * 0 where the call is accepted, else the number of the refusal; answer[0] is then its detail. The other numbers of
- * `answer` are 0 unless said below. A refused call leaves all else that is lent as it was: the store, both buffers and
- * the list, and of the watcher its record and both arrays.
+ * `answer` are 0 unless said below. A refused call leaves all else that is lent as it was: the store, its three buffers
+ * and the list, and of the watcher its record and both arrays.
  *
  * REFUSALS, in README's words: a run is a trace, a step an activity, a rule a constraint; the step buffer is `events`,
- * the ends slice `ends`.
- *       what                                                       detail         who causes it
- *    1  store not sound                                            0              the program that lends memory
- *    2  N not 1 to 32                                              0              the operator
- *    3  threshold not 1 to 1000                                    0              the operator
- *    4  malformed line                                             line           the writer of the log
- *    5  run number lower than the line before                      line           the writer of the log
- *    6  step not below N                                           line or place  the writer of the log or run
- *    7  run longer than 4096                                       line           the writer of the log or run
- *    8  run count already 4095 or the ends slice's length          line           the program that lends memory
- *    9  steps don't fit in the step buffer behind the last end     line           the program that lends memory
- *   10  list shorter than four numbers for each rule to be listed  rules needed   the program that lends memory
- *   11  no run of length 1 or more kept                            0              the operator
- *   12  more than 65536 bytes of input                             0              the program that lends memory
- *   13  rule cut short, without template 1 to 24, or wrong steps   0              the writer of the rules
- *   14  more than 256 rules                                        0              the writer of the rules
+ * the ends slice `ends`, the word slice `words`.
+ *       what                                                             detail         who causes it
+ *    1  store not sound                                                  0              the program that lends memory
+ *    2  N not 1 to 32                                                    0              the operator
+ *    3  threshold not 1 to 1000                                          0              the operator
+ *    4  malformed line                                                   line           the writer of the log
+ *    5  run number lower than the line before                            line           the writer of the log
+ *    6  step not below N                                                 line or place  the writer of the log or run
+ *    7  run longer than 4096                                             line           the writer of the log or run
+ *    8  run count already 4095, or the length of the ends or word slice  line           the program that lends memory
+ *    9  steps don't fit in the step buffer behind the last end           line           the program that lends memory
+ *   10  list shorter than four numbers for each rule to be listed        rules needed   the program that lends memory
+ *   11  no run of length 1 or more kept                                  0              the operator
+ *   12  more than 65536 bytes of input                                   0              the program that lends memory
+ *   13  rule cut short, without template 1 to 24, or wrong steps         0              the writer of the rules
+ *   14  more than 256 rules                                              0              the writer of the rules
  * What is sound, `budgieleaf_is_sound` says. A line is the log's, from 1. Add has no lines: its detail is 0 in 7, 8
  * and 9, and in 6 the place, from 1, of the first step that is not below N. Open has no answer, and so no detail. Only
  * findrules gives 12. The watcher's start gives 2, 14 and 13, its step 1, 6 and 7, all of them without a detail.
@@ -74,20 +76,22 @@ extern "C" {
 uint32_t budgieleaf_open(uint32_t n, uint32_t store[2]);
 
 /*
- * Whether the store is sound: N is 1 to 32; at most 4095 traces are kept and no more than `ends` has room for; no end is
- * below the one before it (0 before the first) or more than 4096 above it; the last end is at most events_length; each
- * kept activity is below N. What the other calls leave of a sound store is sound. Reads the kept ends and events once.
+ * Whether the store is sound: N is 1 to 32; at most 4095 traces are kept, and no more than `ends` or `words` has room
+ * for; no end is below the one before it (0 before the first) or more than 4096 above it; the last end is at most
+ * events_length; each kept activity is below N; each kept word is that of its trace. What the other calls leave of a
+ * sound store is sound. Reads the kept events and words once, and the kept ends twice.
  */
 bool budgieleaf_is_sound(const uint32_t store[2], const uint8_t *events, size_t events_length, const uint32_t *ends,
-                         size_t ends_length);
+                         size_t ends_length, const uint32_t *words, size_t words_length);
 
 /*
  * One trace more, of 0 to 4096 activities, behind those kept. Accepted: answer is { 0, 0, 0 }. An empty trace is kept as
- * any other: it takes an end, 8 counts it, and budgieleaf_find passes over it.
+ * any other: it takes an end and a word, the word 0, 8 counts it, and budgieleaf_find passes over it.
  * Refusals, the first that holds: 1, 6, 7, 8, 9. For 6 the detail is the lowest place of an activity not below N.
  */
 uint32_t budgieleaf_add(uint32_t store[2], uint8_t *events, size_t events_length, uint32_t *ends, size_t ends_length,
-                        const uint8_t *trace, size_t trace_length, uint64_t answer[3]);
+                        uint32_t *words, size_t words_length, const uint8_t *trace, size_t trace_length,
+                        uint64_t answer[3]);
 
 /*
  * The traces of a log in columns, behind those kept. A line has 10 bytes: the trace number (1 to 999999) in columns 1
@@ -99,7 +103,8 @@ uint32_t budgieleaf_add(uint32_t store[2], uint8_t *events, size_t events_length
  * refused log is kept.
  */
 uint32_t budgieleaf_read(uint32_t store[2], uint8_t *events, size_t events_length, uint32_t *ends, size_t ends_length,
-                         const uint8_t *log, size_t log_length, uint64_t answer[3]);
+                         uint32_t *words, size_t words_length, const uint8_t *log, size_t log_length,
+                         uint64_t answer[3]);
 
 /*
  * The constraints that enough of the kept traces fulfil: a count c meets a threshold t over R traces where
@@ -112,7 +117,8 @@ uint32_t budgieleaf_read(uint32_t store[2], uint8_t *events, size_t events_lengt
  * Refusals, the first that holds: 1, 3, 11, 10. Where only empty traces are kept, it is 11.
  */
 uint32_t budgieleaf_find(const uint32_t store[2], const uint8_t *events, size_t events_length, const uint32_t *ends,
-                         size_t ends_length, uint32_t threshold, uint16_t *list, size_t list_length, uint64_t answer[3]);
+                         size_t ends_length, const uint32_t *words, size_t words_length, uint32_t threshold,
+                         uint16_t *list, size_t list_length, uint64_t answer[3]);
 
 /*
  * WATCHING A RUN WHILE IT GROWS

@@ -15,6 +15,7 @@
 static uint32_t store[2];
 static uint8_t events[64];
 static uint32_t ends[8];
+static uint32_t words[8];
 static uint16_t list[4 * 90];
 
 static int refused(const char *call, uint32_t number, uint64_t detail)
@@ -25,12 +26,14 @@ static int refused(const char *call, uint32_t number, uint64_t detail)
 
 static uint32_t add(const uint8_t *trace, size_t length, uint64_t answer[3])
 {
-    return budgieleaf_add(store, events, sizeof events, ends, sizeof ends / sizeof *ends, trace, length, answer);
+    return budgieleaf_add(store, events, sizeof events, ends, sizeof ends / sizeof *ends, words, sizeof words / sizeof *words,
+                          trace, length, answer);
 }
 
 static uint32_t find(uint32_t threshold, size_t rules, uint64_t answer[3])
 {
-    return budgieleaf_find(store, events, sizeof events, ends, sizeof ends / sizeof *ends, threshold, list, 4 * rules, answer);
+    return budgieleaf_find(store, events, sizeof events, ends, sizeof ends / sizeof *ends, words, sizeof words / sizeof *words,
+                           threshold, list, 4 * rules, answer);
 }
 
 int main(void)
@@ -47,7 +50,8 @@ int main(void)
     if (number != 0)
         return refused("open", number, 0);
 
-    number = budgieleaf_read(store, events, sizeof events, ends, sizeof ends / sizeof *ends, (const uint8_t *)log, strlen(log), answer);
+    number = budgieleaf_read(store, events, sizeof events, ends, sizeof ends / sizeof *ends, words, sizeof words / sizeof *words,
+                             (const uint8_t *)log, strlen(log), answer);
     if (number != 0)
         return refused("read", number, answer[0]);
     printf("read: %" PRIu64 " traces\n", answer[0]);

@@ -9,13 +9,23 @@ use crate::oracle::ledger::Refusal;
 #[link(name = "capi", kind = "static")]
 extern "C" {
     fn budgieleaf_open(n: u32, store: *mut u32) -> u32;
-    fn budgieleaf_is_sound(store: *const u32, events: *const u8, events_length: usize, ends: *const u32, ends_length: usize) -> bool;
+    fn budgieleaf_is_sound(
+        store: *const u32,
+        events: *const u8,
+        events_length: usize,
+        ends: *const u32,
+        ends_length: usize,
+        words: *const u32,
+        words_length: usize,
+    ) -> bool;
     fn budgieleaf_add(
         store: *mut u32,
         events: *mut u8,
         events_length: usize,
         ends: *mut u32,
         ends_length: usize,
+        words: *mut u32,
+        words_length: usize,
         trace: *const u8,
         trace_length: usize,
         answer: *mut u64,
@@ -26,6 +36,8 @@ extern "C" {
         events_length: usize,
         ends: *mut u32,
         ends_length: usize,
+        words: *mut u32,
+        words_length: usize,
         log: *const u8,
         log_length: usize,
         answer: *mut u64,
@@ -36,6 +48,8 @@ extern "C" {
         events_length: usize,
         ends: *const u32,
         ends_length: usize,
+        words: *const u32,
+        words_length: usize,
         threshold: u32,
         list: *mut u16,
         list_length: usize,
@@ -113,8 +127,10 @@ pub struct Archive;
 impl Archive {
     pub fn is_sound(memory: &Memory) -> bool {
         let mut store = Store::new(memory.record);
-        let (events, ends) = (memory.events.get(), memory.ends.get());
-        let said = unsafe { budgieleaf_is_sound(store.numbers(), events.as_ptr(), events.len(), ends.as_ptr(), ends.len()) };
+        let (events, ends, words) = (memory.events.get(), memory.ends.get(), memory.words.get());
+        let said = unsafe {
+            budgieleaf_is_sound(store.numbers(), events.as_ptr(), events.len(), ends.as_ptr(), ends.len(), words.as_ptr(), words.len())
+        };
         assert_eq!(store.record(), memory.record);
         said
     }
@@ -134,7 +150,7 @@ impl Calls for Archive {
 
     fn add(&mut self, memory: &mut Memory, trace: &[u8]) -> Result<(), Refusal> {
         let (mut store, mut answer) = (Store::new(memory.record), Answer::new());
-        let (events, ends) = (memory.events.get_mut(), memory.ends.get_mut());
+        let (events, ends, words) = (memory.events.get_mut(), memory.ends.get_mut(), memory.words.get_mut());
         let number = unsafe {
             budgieleaf_add(
                 store.numbers(),
@@ -142,6 +158,8 @@ impl Calls for Archive {
                 events.len(),
                 ends.as_mut_ptr(),
                 ends.len(),
+                words.as_mut_ptr(),
+                words.len(),
                 trace.as_ptr(),
                 trace.len(),
                 answer.numbers(),
@@ -153,7 +171,7 @@ impl Calls for Archive {
 
     fn read(&mut self, memory: &mut Memory, log: &[u8]) -> Result<u32, Refusal> {
         let (mut store, mut answer) = (Store::new(memory.record), Answer::new());
-        let (events, ends) = (memory.events.get_mut(), memory.ends.get_mut());
+        let (events, ends, words) = (memory.events.get_mut(), memory.ends.get_mut(), memory.words.get_mut());
         let number = unsafe {
             budgieleaf_read(
                 store.numbers(),
@@ -161,6 +179,8 @@ impl Calls for Archive {
                 events.len(),
                 ends.as_mut_ptr(),
                 ends.len(),
+                words.as_mut_ptr(),
+                words.len(),
                 log.as_ptr(),
                 log.len(),
                 answer.numbers(),
@@ -175,7 +195,7 @@ impl Calls for Archive {
 
     fn find(&mut self, memory: &Memory, threshold: u32, list: &mut [u16]) -> Result<FindAnswer, Refusal> {
         let (mut store, mut answer) = (Store::new(memory.record), Answer::new());
-        let (events, ends) = (memory.events.get(), memory.ends.get());
+        let (events, ends, words) = (memory.events.get(), memory.ends.get(), memory.words.get());
         let number = unsafe {
             budgieleaf_find(
                 store.numbers(),
@@ -183,6 +203,8 @@ impl Calls for Archive {
                 events.len(),
                 ends.as_ptr(),
                 ends.len(),
+                words.as_ptr(),
+                words.len(),
                 threshold,
                 list.as_mut_ptr(),
                 list.len(),

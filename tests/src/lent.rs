@@ -55,17 +55,23 @@ pub struct Memory {
     pub record: Record,
     pub events: Lent<u8>,
     pub ends: Lent<u32>,
+    pub words: Lent<u32>,
 }
 
 impl Memory {
     /// Buffers of just these, with nothing beside them.
-    pub fn of(record: Record, events: Vec<u8>, ends: Vec<u32>) -> Memory {
-        Memory { record, events: Lent::all(events), ends: Lent::all(ends) }
+    pub fn of(record: Record, events: Vec<u8>, ends: Vec<u32>, words: Vec<u32>) -> Memory {
+        Memory { record, events: Lent::all(events), ends: Lent::all(ends), words: Lent::all(words) }
     }
 
     /// The first part that is not as in the other memory; what stands beside a slice belongs to it.
     pub fn difference(&self, other: &Memory) -> Option<&'static str> {
-        let parts = [("record", self.record == other.record), ("events", self.events == other.events), ("ends", self.ends == other.ends)];
+        let parts = [
+            ("record", self.record == other.record),
+            ("events", self.events == other.events),
+            ("ends", self.ends == other.ends),
+            ("words", self.words == other.words),
+        ];
         parts.into_iter().find(|&(_, same)| !same).map(|(part, _)| part)
     }
 }
@@ -82,7 +88,8 @@ fn short<T: std::fmt::Debug>(slice: &[T]) -> String {
 
 impl std::fmt::Debug for Memory {
     fn fmt(&self, f: &mut std::fmt::Formatter) -> std::fmt::Result {
-        write!(f, "{:?} events {} ends {}", self.record, short(self.events.get()), short(self.ends.get()))
+        let (events, ends, words) = (short(self.events.get()), short(self.ends.get()), short(self.words.get()));
+        write!(f, "{:?} events {events} ends {ends} words {words}", self.record)
     }
 }
 

@@ -1,7 +1,9 @@
 //! A finder in plain Rust, as fast as its kind allows and with no proof: what the benchmark sets beside the archive's `find`. It
-//! works as that one does: class by template number, support counted from the events, one replay of each trace for each
+//! works as that one does: class by template number, support counted from the words alone, one replay of each trace for each
 //! constraint that pruning keeps, and one before that where the list might not fit; no memory but what is lent. A replay keeps
-//! one state of the constraint's own automaton and looks the next one up.
+//! one state of the constraint's own automaton and looks the next one up. It counts support for each constraint, and not once a
+//! pair, as it has no place to remember it. A second finder is what a user might write without words: it does not look at them,
+//! and its support lets the standard library search the events.
 
 use crate::calls::FindAnswer;
 use crate::lent::{Memory, Record};
@@ -84,17 +86,18 @@ impl Automaton {
     }
 }
 
-/// A sound memory's record and slices, looked up once for all constraints.
+/// What is kept: a memory's record and its slices, looked up once for all constraints.
 #[derive(Clone, Copy)]
-struct Sound<'a> {
+struct Kept<'a> {
     record: Record,
     events: &'a [u8],
     ends: &'a [u32],
+    words: &'a [u32],
 }
 
-/// Nothing where the memory is not sound.
-fn sound(memory: &Memory) -> Option<Sound<'_>> {
-    let (record, events, ends) = (memory.record, memory.events.get(), memory.ends.get());
+/// Nothing where N, the number of traces or the ends are not sound.
+fn kept(memory: &Memory) -> Option<Kept<'_>> {
+    let (record, events, ends, words) = (memory.record, memory.events.get(), memory.ends.get(), memory.words.get());
     let count = record.traces as usize;
     if !(1..=32).contains(&record.activities) || count > 4095 || count > ends.len() {
         return None;
@@ -106,41 +109,68 @@ fn sound(memory: &Memory) -> Option<Sound<'_>> {
         }
         last = end;
     }
-    let declared = last as usize <= events.len() && events[..last as usize].iter().all(|&x| (x as u32) < record.activities);
-    declared.then_some(Sound { record, events, ends })
+    Some(Kept { record, events: events.get(..last as usize)?, ends, words })
 }
 
-/// The kept traces of length 1 or more as parts of the events.
-fn traces(Sound { record, events, ends }: Sound<'_>) -> impl Iterator<Item = &[u8]> {
+/// The kept traces as parts of the events.
+fn all_traces(Kept { record, events, ends, .. }: Kept<'_>) -> impl Iterator<Item = &[u8]> {
     let mut from = 0;
-    ends[..record.traces as usize]
-        .iter()
-        .map(move |&end| {
-            let trace = &events[from..end as usize];
-            from = end as usize;
-            trace
-        })
-        .filter(|w| !w.is_empty())
+    ends[..record.traces as usize].iter().map(move |&end| {
+        let trace = &events[from..end as usize];
+        from = end as usize;
+        trace
+    })
 }
 
-/// Byte by byte, as the proved code does.
-#[inline]
-pub fn by_bytes(trace: &[u8], x: u8) -> bool {
-    trace.iter().any(|&event| event == x)
+/// Those of length 1 or more.
+fn traces(store: Kept<'_>) -> impl Iterator<Item = &[u8]> {
+    all_traces(store).filter(|w| !w.is_empty())
 }
 
-/// As the standard library does, several bytes at a time, where the trace is long enough for that.
+/// What is kept, where each kept word is that of its trace and each kept activity is declared. Each event is looked at once, for
+/// both: an activity that is not declared leaves a bit from N on.
+fn sound_with_words(memory: &Memory) -> Option<Kept<'_>> {
+    let store = kept(memory)?;
+    let words = store.words.get(..store.record.traces as usize)?;
+    let sound = all_traces(store).zip(words).all(|(trace, &word)| {
+        let made = trace.iter().fold(0, |made, &x| made | 1u64 << x.min(63));
+        made == word as u64 && made >> store.record.activities == 0
+    });
+    sound.then_some(Kept { words, ..store })
+}
+
+/// What is kept, where each kept activity is declared, whatever the words.
+fn sound_without_words(memory: &Memory) -> Option<Kept<'_>> {
+    kept(memory).filter(|store| store.events.iter().all(|&x| (x as u32) < store.record.activities))
+}
+
+fn count_of(words: &[u32], counts: impl Fn(u32) -> bool) -> u32 {
+    words.iter().map(|&word| counts(word) as u32).sum()
+}
+
+/// The kept traces that count for the constraint's class, one mask and one comparison a word; r is all of length 1 or more.
+fn support_by_words(Kept { words, .. }: Kept, r: u32, template: u8, a: u8, b: u8) -> u32 {
+    let either = 1 << a | 1 << b;
+    match template {
+        1..=3 | 7..=8 => count_of(words, |word| word & 1 << a != 0),
+        4..=6 => r,
+        9..=10 | 12 | 23..=24 => count_of(words, |word| word & either != 0),
+        _ => count_of(words, |word| word & either == either),
+    }
+}
+
+/// Several bytes at a time, as the standard library does, where the trace is long enough for that.
 #[inline]
-pub fn by_library(trace: &[u8], x: u8) -> bool {
+fn has(trace: &[u8], x: u8) -> bool {
     if trace.len() < 16 {
-        by_bytes(trace, x)
+        trace.iter().any(|&event| event == x)
     } else {
         trace.contains(&x)
     }
 }
 
-/// The kept traces that count for the constraint's class; r is all of length 1 or more.
-fn support(has: impl Fn(&[u8], u8) -> bool, store: Sound, r: u32, template: u8, a: u8, b: u8) -> u32 {
+/// The same without words.
+fn support_by_library(store: Kept, r: u32, template: u8, a: u8, b: u8) -> u32 {
     let all = traces(store);
     let count = match template {
         1..=3 | 7..=8 => all.filter(|w| has(w, a)).count(),
@@ -158,8 +188,8 @@ fn meets(count: u32, threshold: u32, traces: u32) -> bool {
 /// Goes over the constraints in their order and hands each one to be listed on, with its count. Gives the replayed number.
 fn walk(
     automaton: &Automaton,
-    has: impl Fn(&[u8], u8) -> bool + Copy,
-    store: Sound,
+    support: impl Fn(Kept, u32, u8, u8, u8) -> u32 + Copy,
+    store: Kept,
     r: u32,
     threshold: u32,
     mut listed: impl FnMut([u16; NUMBERS]),
@@ -177,7 +207,7 @@ fn walk(
                 if template > 12 && a == b {
                     continue;
                 }
-                if !meets(support(has, store, r, template, a, b), threshold, r) {
+                if !meets(support(store, r, template, a, b), threshold, r) {
                     continue;
                 }
                 let count = traces(store).filter(|w| automaton.fulfilled(template, a, b, w)).count() as u32;
@@ -191,34 +221,47 @@ fn walk(
     replayed
 }
 
-/// `has` is how support looks for an activity in a trace: `by_bytes` or `by_library`.
-pub fn find(
+/// The find of a sound store with r traces of length 1 or more.
+fn find(
     automaton: &Automaton,
-    has: impl Fn(&[u8], u8) -> bool + Copy,
-    memory: &Memory,
+    support: impl Fn(Kept, u32, u8, u8, u8) -> u32 + Copy,
+    store: Kept,
+    r: u32,
     threshold: u32,
     list: &mut [u16],
 ) -> Result<FindAnswer, Refusal> {
-    let store = sound(memory).ok_or(refusal(1, 0))?;
     if !(1..=1000).contains(&threshold) {
         return Err(refusal(3, 0));
     }
-    let r = traces(store).count() as u32;
     if r == 0 {
         return Err(refusal(11, 0));
     }
     if list.len() < room_for_all(store.record.activities) {
         let mut needed = 0;
-        walk(automaton, has, store, r, threshold, |_| needed += 1);
+        walk(automaton, support, store, r, threshold, |_| needed += 1);
         if list.len() < NUMBERS * needed {
             return Err(refusal(10, needed));
         }
     }
     let mut listed = 0;
     let mut places = list.chunks_exact_mut(NUMBERS);
-    let replayed = walk(automaton, has, store, r, threshold, |rule| {
+    let replayed = walk(automaton, support, store, r, threshold, |rule| {
         places.next().unwrap().copy_from_slice(&rule);
         listed += 1;
     });
     Ok(FindAnswer { listed, replayed, traces: r })
+}
+
+/// Support and R from the words, as the proved code has them.
+pub fn by_words(automaton: &Automaton, memory: &Memory, threshold: u32, list: &mut [u16]) -> Result<FindAnswer, Refusal> {
+    let store = sound_with_words(memory).ok_or(refusal(1, 0))?;
+    let r = count_of(store.words, |word| word != 0);
+    find(automaton, support_by_words, store, r, threshold, list)
+}
+
+/// Support and R from the traces, without words.
+pub fn by_library(automaton: &Automaton, memory: &Memory, threshold: u32, list: &mut [u16]) -> Result<FindAnswer, Refusal> {
+    let store = sound_without_words(memory).ok_or(refusal(1, 0))?;
+    let r = traces(store).count() as u32;
+    find(automaton, support_by_library, store, r, threshold, list)
 }

@@ -7,6 +7,7 @@ use crate::oracle::finder::{room_for_all, NUMBERS};
 use crate::oracle::ledger::{Ledger, Refusal};
 use crate::oracle::memory::Model;
 use crate::rng::Rng;
+use std::cmp::Ordering;
 
 #[derive(Clone, Debug)]
 pub enum Call {
@@ -98,12 +99,13 @@ pub struct History<C> {
 
 impl<C: Calls> History<C> {
     /// A fresh store beside buffers of any content.
-    pub fn fresh(mut subject: C, rng: &mut Rng, n: u32, events_room: usize, ends_room: usize) -> History<C> {
+    pub fn fresh(mut subject: C, rng: &mut Rng, n: u32, events_room: usize, ends_room: usize, words_room: usize) -> History<C> {
         let events = Lent::new(rng, events_room, |rng| rng.byte());
-        let ends = Lent::new(rng, ends_room, |rng| rng.next() as u32 >> rng.below(32));
+        let mut numbers = |room| Lent::new(rng, room, |rng| rng.next() as u32 >> rng.below(32));
+        let (ends, words) = (numbers(ends_room), numbers(words_room));
         let record = subject.open(n).expect("a fresh store is opened");
-        let ledger = Ledger::fresh(n, events_room, ends_room);
-        History { subject, memory: Memory { record, events, ends }, ledger, tally: [0; 13] }
+        let ledger = Ledger::fresh(n, events_room, ends_room, words_room);
+        History { subject, memory: Memory { record, events, ends, words }, ledger, tally: [0; 13] }
     }
 
     pub fn call(&mut self, call: Call) -> Result<Said, String> {
@@ -122,11 +124,30 @@ impl<C: Calls> History<C> {
 pub struct Sizes {
     pub events: usize,
     pub ends: usize,
+    pub words: usize,
     pub calls: usize,
     pub longest: usize,
     pub lines: usize,
     /// How many of a hundred added traces are empty, beside those that come so.
     pub empty: usize,
+}
+
+/// How often 8 came by the words alone and by the ends alone, in histories that keep no 4095 traces.
+#[derive(Default, Debug)]
+pub struct Full {
+    pub by_words: usize,
+    pub by_ends: usize,
+}
+
+impl Full {
+    /// Counts a history of these sizes: where one of the two slices is the shorter, 8 comes by that one.
+    pub fn count(&mut self, sizes: Sizes, tally: Tally) {
+        match sizes.words.cmp(&sizes.ends) {
+            Ordering::Less => self.by_words += tally[8],
+            Ordering::Greater => self.by_ends += tally[8],
+            Ordering::Equal => {}
+        }
+    }
 }
 
 fn added_trace(rng: &mut Rng, n: u32, Sizes { longest, empty, .. }: Sizes) -> Vec<u8> {
@@ -202,7 +223,7 @@ pub fn next_call(rng: &mut Rng, ledger: &Ledger, sizes: Sizes) -> Call {
 pub fn play(subject: &mut dyn Calls, seed: u64, sizes: Sizes) -> Result<Tally, String> {
     let mut rng = Rng::new(seed);
     let n = gen::activities(&mut rng);
-    let mut history = History::fresh(subject, &mut rng, n, sizes.events, sizes.ends);
+    let mut history = History::fresh(subject, &mut rng, n, sizes.events, sizes.ends, sizes.words);
     for k in 0..sizes.calls {
         let call = next_call(&mut rng, &history.ledger, sizes);
         history.call(call).map_err(|e| format!("seed {seed}, call {k}: {e}"))?;

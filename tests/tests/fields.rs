@@ -13,12 +13,13 @@ use budgieleaf_tests::play::{compare, Call, Said};
 const BYTES: &[u8] = b" 0149/:";
 
 fn fresh(events: usize) -> Memory {
-    Memory::of(Record { activities: 32, traces: 0 }, vec![0xA5; events], vec![77; events])
+    Memory::of(Record { activities: 32, traces: 0 }, vec![0xA5; events], vec![77; events], vec![99; events])
 }
 
 /// Every field of this width over those bytes.
 fn all_fields(width: usize) -> impl Iterator<Item = Vec<u8>> {
-    (0..BYTES.len().pow(width as u32)).map(move |k| (0..width).map(|column| BYTES[k / BYTES.len().pow(column as u32) % BYTES.len()]).collect())
+    (0..BYTES.len().pow(width as u32))
+        .map(move |k| (0..width).map(|column| BYTES[k / BYTES.len().pow(column as u32) % BYTES.len()]).collect())
 }
 
 /// Lines of one field of each kind, on memory of their own; how many were accepted.
@@ -38,7 +39,8 @@ fn every_number(subject: &mut dyn Calls, numbers: impl Iterator<Item = u32>) -> 
         let (this, next) = (written(number, 7), written(number + 1, 8));
         let mut memory = fresh(3);
         let said = subject.read(&mut memory, &[&this[..], &this, &next].concat());
-        if said != Ok(2) || memory.events.get() != [7, 7, 8] || memory.ends.get()[..2] != [2, 3] {
+        let kept = (memory.events.get(), &memory.ends.get()[..2], &memory.words.get()[..2]);
+        if said != Ok(2) || kept != (&[7, 7, 8], &[2, 3], &[1 << 7, 1 << 8]) {
             return Err(format!("{number} twice and the next: {said:?}"));
         }
         let said = subject.read(&mut fresh(3), &[next, this].concat());

@@ -1,24 +1,26 @@
 //! Tests of the tests: with the model itself as the subject all cases pass, with a faulty one the fault is reported.
 
 use budgieleaf_tests::calls::{Calls, FindAnswer};
-use budgieleaf_tests::lent::{Memory, Record};
-use budgieleaf_tests::memories;
+use budgieleaf_tests::lent::{Lent, Memory, Record};
+use budgieleaf_tests::memories::{self, right_words};
 use budgieleaf_tests::oracle::finder::NUMBERS;
 use budgieleaf_tests::oracle::ledger::Refusal;
-use budgieleaf_tests::oracle::memory::{is_sound, kept, Model};
-use budgieleaf_tests::play::{play, Sizes};
+use budgieleaf_tests::oracle::memory::{is_sound, kept, word, Model};
+use budgieleaf_tests::play::{play, Full, Sizes};
 use budgieleaf_tests::rng::Rng;
 
-const SMALL: Sizes = Sizes { events: 60, ends: 9, calls: 40, longest: 9, lines: 40, empty: 40 };
+const SMALL: Sizes = Sizes { events: 60, ends: 9, words: 9, calls: 40, longest: 9, lines: 40, empty: 40 };
 
 #[test]
 fn the_model_agrees_with_the_ledger() {
-    let mut reached = [0; 13];
+    let (mut reached, mut full) = ([0; 13], Full::default());
     for seed in 0..60 {
-        let sizes = Sizes { events: 10 * (seed as usize % 12), ends: seed as usize % 9, ..SMALL };
+        let sizes = Sizes { events: 10 * (seed as usize % 12), ends: seed as usize % 9, words: seed as usize % 11, ..SMALL };
         let tally = play(&mut Model, seed, sizes).unwrap();
         reached.iter_mut().zip(tally).for_each(|(r, t)| *r += t);
+        full.count(sizes, tally);
     }
+    assert!(full.by_words > 0 && full.by_ends > 0, "{full:?}");
     for number in [0, 2, 3, 4, 5, 6, 8, 9, 10, 11] {
         assert!(reached[number] > 0, "answer {number} never came: {reached:?}");
     }
@@ -29,6 +31,7 @@ enum Fault {
     OpensAny,
     EventPast,
     EndPast,
+    WordPast,
     EventKept,
     WritesThoughRefused,
     CountsThoughRefused,
@@ -50,12 +53,17 @@ enum Fault {
     EmptyInR,
     EmptyFulfils,
     OnlyEmptyListed,
+    WordMissing,
+    WordOfAll,
+    WordThoughRefused,
+    FullByEndsAlone,
 }
 
-const FAULTS: [Fault; 24] = [
+const FAULTS: [Fault; 29] = [
     Fault::OpensAny,
     Fault::EventPast,
     Fault::EndPast,
+    Fault::WordPast,
     Fault::EventKept,
     Fault::WritesThoughRefused,
     Fault::CountsThoughRefused,
@@ -77,6 +85,10 @@ const FAULTS: [Fault; 24] = [
     Fault::EmptyInR,
     Fault::EmptyFulfils,
     Fault::OnlyEmptyListed,
+    Fault::WordMissing,
+    Fault::WordOfAll,
+    Fault::WordThoughRefused,
+    Fault::FullByEndsAlone,
 ];
 
 /// The empty traces that a memory keeps.
@@ -111,7 +123,7 @@ impl Faulty {
     }
 
     fn memory(&mut self, accepted: bool, before: Record, memory: &mut Memory) {
-        let (after, events, ends) = (&mut memory.record, memory.events.get_mut(), memory.ends.get_mut());
+        let (after, events, ends, words) = (&mut memory.record, memory.events.get_mut(), memory.ends.get_mut(), memory.words.get_mut());
         let last = if after.traces == 0 { 0 } else { ends[after.traces as usize - 1] as usize };
         if self.when(Fault::EventKept, accepted && last > 0) {
             events[0] = (events[0] + 1) % 2;
@@ -121,6 +133,9 @@ impl Faulty {
         }
         if self.when(Fault::EndPast, (after.traces as usize) < ends.len()) {
             ends[after.traces as usize] ^= 1;
+        }
+        if self.when(Fault::WordPast, (after.traces as usize) < words.len()) {
+            words[after.traces as usize] ^= 1;
         }
         if self.when(Fault::WritesThoughRefused, !accepted && last < events.len()) {
             events[events.len() - 1] ^= 4;
@@ -143,7 +158,8 @@ impl Calls for Faulty {
     }
 
     fn add(&mut self, memory: &mut Memory, trace: &[u8]) -> Result<(), Refusal> {
-        let before = memory.record;
+        let (before, next) = (memory.record, memory.record.traces as usize);
+        let there = memory.words.get().get(next).copied();
         let mut said = Model.add(memory, trace);
         if let Err(r) = &mut said {
             self.refusal(r);
@@ -159,7 +175,18 @@ impl Calls for Faulty {
         if self.when(Fault::EmptyDropped, said.is_ok() && trace.is_empty()) {
             memory.record = before;
         }
-        if said.is_err_and(|r| r.number == 8) && self.when(Fault::FullWithoutEmpty, empty(memory) > 0) {
+        let words = memory.words.get_mut();
+        if self.when(Fault::WordMissing, said.is_ok() && there != Some(word(trace))) {
+            words[next] = there.unwrap();
+        }
+        if self.when(Fault::WordThoughRefused, said.is_err() && there.is_some_and(|there| there != word(trace))) {
+            words[next] = word(trace);
+        }
+        let full = said.is_err_and(|r| r.number == 8);
+        if full && self.when(Fault::FullWithoutEmpty, empty(memory) > 0) {
+            said = Ok(());
+        }
+        if full && self.when(Fault::FullByEndsAlone, next < memory.ends.get().len()) {
             said = Ok(());
         }
         self.memory(said.is_ok(), before, memory);
@@ -173,6 +200,12 @@ impl Calls for Faulty {
             Err(r) => self.refusal(r),
             Ok(added) if self.when(Fault::ReadCount, true) => *added += 1,
             _ => {}
+        }
+        let (from, to) = (before.traces as usize, memory.record.traces as usize);
+        let mut of_all: Vec<u32> = memory.words.get()[..to].to_vec();
+        (from.max(1)..to).for_each(|k| of_all[k] |= of_all[k - 1]);
+        if self.when(Fault::WordOfAll, memory.words.get()[..to] != of_all) {
+            memory.words.get_mut()[..to].copy_from_slice(&of_all);
         }
         self.memory(said.is_ok(), before, memory);
         said
@@ -224,7 +257,7 @@ fn each_fault_is_reported() {
         let mut shown = 0;
         for seed in 100..140 {
             let mut subject = Faulty { fault, shown: false };
-            let result = play(&mut subject, seed, SMALL);
+            let result = play(&mut subject, seed, Sizes { words: 6 + seed as usize % 6, ..SMALL });
             assert_eq!(subject.shown, result.is_err(), "{fault:?} at seed {seed}: {result:?}");
             shown += subject.shown as usize;
         }
@@ -238,8 +271,15 @@ fn memories_are_sound_or_not_as_meant() {
     for _ in 0..300 {
         assert!(is_sound(&memories::sound(&mut rng)));
         for (kind, name) in memories::UNSOUND.iter().enumerate() {
-            let memory = memories::unsound(&mut rng, kind);
+            let mut memory = memories::unsound(&mut rng, kind);
             assert!(!is_sound(&memory), "{name}: {memory:?}");
+            // Right words mend those that are unsound by their words, and the others have them.
+            let (events, ends, words) = (memory.events.get(), memory.ends.get(), memory.words.get());
+            let (right, of_words) = (right_words(events, ends), kind >= memories::BESIDE_WORDS);
+            let kept = ends.len().min(memory.record.traces as usize);
+            assert_eq!(words.get(..kept) != Some(&right[..kept]), of_words, "{name}: {memory:?}");
+            memory.words = Lent::all(right);
+            assert_eq!(is_sound(&memory), of_words, "{name}: {memory:?}");
         }
     }
     for _ in 0..30 {

@@ -7,27 +7,31 @@ use budgieleaf_tests::gen;
 use budgieleaf_tests::lent::Lent;
 use budgieleaf_tests::oracle::finder::NUMBERS;
 use budgieleaf_tests::oracle::ledger::refusal;
-use budgieleaf_tests::play::{compare, play, Call, History, Said, Sizes};
+use budgieleaf_tests::play::{compare, play, Call, Full, History, Said, Sizes};
 use budgieleaf_tests::rng::{cases, Rng};
 
+/// Random histories of these sizes; each of these answers must come, and 8 both by the words alone and by the ends alone.
 fn random(name: &str, seed: u64, default: usize, answers: &[usize], sizes: impl Fn(&mut Rng) -> Sizes) {
-    let mut reached = [0; 13];
+    let (mut reached, mut full) = ([0; 13], Full::default());
     let mut rng = Rng::new(seed);
     for case in 0..cases(default) {
-        let tally = play(&mut Archive, seed + 1000 * case as u64, sizes(&mut rng)).unwrap_or_else(|e| panic!("{name}: {e}"));
+        let sizes = sizes(&mut rng);
+        let tally = play(&mut Archive, seed + 1000 * case as u64, sizes).unwrap_or_else(|e| panic!("{name}: {e}"));
         reached.iter_mut().zip(tally).for_each(|(r, t)| *r += t);
+        full.count(sizes, tally);
     }
-    println!("{name}: {} histories, {} calls, answers {reached:?}", cases(default), reached.iter().sum::<usize>());
+    println!("{name}: {} histories, {} calls, answers {reached:?}, {full:?}", cases(default), reached.iter().sum::<usize>());
     for &answer in answers {
         assert!(reached[answer] > 0, "{name}: answer {answer} never came: {reached:?}");
     }
+    assert!(!answers.contains(&8) || full.by_words > 0 && full.by_ends > 0, "{name}: {full:?}");
 }
 
 #[test]
 fn small_buffers() {
     random("small", 1, 1200, &[0, 2, 3, 4, 5, 6, 8, 9, 10, 11], |rng| {
         let longest = rng.pick(&[1, 4, 9]);
-        Sizes { events: rng.below(60), ends: rng.below(9), calls: 30, longest, lines: 40, empty: 0 }
+        Sizes { events: rng.below(60), ends: rng.below(9), words: rng.below(12), calls: 30, longest, lines: 40, empty: 0 }
     });
 }
 
@@ -36,7 +40,7 @@ fn small_buffers() {
 fn full_of_empty_traces() {
     random("empty", 3, 400, &[0, 3, 6, 8, 9, 10, 11], |rng| {
         let (longest, empty) = rng.pick(&[(1, 50), (2, 90), (6, 60), (6, 95)]);
-        Sizes { events: rng.below(60), ends: rng.within(1, 25), calls: 40, longest, lines: 3, empty }
+        Sizes { events: rng.below(60), ends: rng.within(1, 25), words: rng.within(1, 25), calls: 40, longest, lines: 3, empty }
     });
 }
 
@@ -44,7 +48,8 @@ fn full_of_empty_traces() {
 fn middling_buffers() {
     random("middling", 2, 250, &[0, 2, 3, 4, 5, 6, 8, 9, 10, 11], |rng| {
         let longest = rng.pick(&[3, 15, 40]);
-        Sizes { events: rng.within(100, 600), ends: rng.within(10, 40), calls: 60, longest, lines: 200, empty: 20 }
+        let (ends, words) = (rng.within(10, 40), rng.within(10, 40));
+        Sizes { events: rng.within(100, 600), ends, words, calls: 60, longest, lines: 200, empty: 20 }
     });
 }
 
@@ -52,7 +57,8 @@ fn middling_buffers() {
 fn large_buffers() {
     random("large", 17, 40, &[0, 4, 6, 7, 9, 10], |rng| {
         let longest = rng.pick(&[300, 4096]);
-        Sizes { events: rng.within(9000, 30000), ends: rng.within(5, 5000), calls: 25, longest, lines: 5000, empty: 0 }
+        let (ends, words) = (rng.within(5, 5000), rng.within(5, 5000));
+        Sizes { events: rng.within(9000, 30000), ends, words, calls: 25, longest, lines: 5000, empty: 0 }
     });
 }
 
@@ -64,13 +70,13 @@ fn list_for(rng: &mut Rng, rules: usize) -> Lent<u16> {
     list(rng, NUMBERS * rules)
 }
 
-/// Up to 4095 traces, or as many as there are ends; then 8 for a trace and for a log's line, an empty log is taken, and find
-/// goes on as before.
+/// Up to 4095 traces, or as many as there are ends or words; then 8 for a trace and for a log's line, an empty log is taken, and
+/// find goes on as before.
 #[test]
 fn up_to_the_last_trace() {
-    for (ends_room, most) in [(4095, 4095), (5000, 4095), (4094, 4094)] {
+    for (ends_room, words_room, most) in [(4095, 4095, 4095), (5000, 4096, 4095), (4094, 4095, 4094), (4095, 4094, 4094)] {
         let rng = &mut Rng::new(ends_room as u64);
-        let mut history = History::fresh(Archive, rng, 3, 6000, ends_room);
+        let mut history = History::fresh(Archive, rng, 3, 6000, ends_room, words_room);
         let mut call = |call| history.call(call).unwrap();
         for part in [1500, 1500, most - 3003] {
             let log: Vec<Vec<u8>> = (0..part).map(|_| vec![rng.below(3) as u8]).collect();
@@ -94,7 +100,7 @@ fn up_to_the_last_trace() {
 #[test]
 fn up_to_the_last_event() {
     let rng = &mut Rng::new(11);
-    let mut history = History::fresh(Archive, rng, 2, 9000, 40);
+    let mut history = History::fresh(Archive, rng, 2, 9000, 40, 40);
     let mut call = |call| history.call(call).unwrap();
     assert_eq!(call(Call::Add(vec![1; 4097])), Said::Refused(refusal(7, 0)));
     assert_eq!(call(Call::Add(vec![1; 4096])), Said::Added);
@@ -117,7 +123,7 @@ fn up_to_the_last_event() {
 #[test]
 fn lists_of_every_length() {
     let rng = &mut Rng::new(12);
-    let mut history = History::fresh(Archive, rng, 4, 200, 20);
+    let mut history = History::fresh(Archive, rng, 4, 200, 20, 21);
     for _ in 0..8 {
         let trace = gen::trace(rng, 4, 9);
         history.call(Call::Add(trace)).unwrap();
@@ -134,7 +140,7 @@ fn lists_of_every_length() {
 #[test]
 fn rows_of_document_01() {
     let rng = &mut Rng::new(13);
-    let mut history = History::fresh(Archive, rng, 2, 5000, 20);
+    let mut history = History::fresh(Archive, rng, 2, 5000, 20, 19);
     let mut call = |call| history.call(call).unwrap();
     assert_eq!(call(Call::Add(vec![0, 1])), Said::Added);
     assert_eq!(call(Call::Add(vec![0, 0, 1])), Said::Added);
@@ -151,7 +157,7 @@ fn rows_of_document_01() {
 #[test]
 fn the_lowest_undeclared_place() {
     let rng = &mut Rng::new(16);
-    let mut history = History::fresh(Archive, rng, 2, 8, 2);
+    let mut history = History::fresh(Archive, rng, 2, 8, 2, 2);
     let mut call = |call| history.call(call).unwrap();
     let traces: [(&[u8], usize); 9] = [
         (&[2], 1),
@@ -184,7 +190,7 @@ fn the_lowest_undeclared_place() {
 fn all_short_traces_with_undeclared_steps() {
     let rng = &mut Rng::new(18);
     for n in [1, 2, 31, 32] {
-        let fresh = History::fresh(Archive, rng, n, 5, 1);
+        let fresh = History::fresh(Archive, rng, n, 5, 1, 1);
         let events = [0, n as u8 - 1, n as u8, 255];
         for (len, k) in (0..=5).flat_map(|len| (0..4usize.pow(len)).map(move |k| (len, k))) {
             let trace: Vec<u8> = (0..len).map(|digit| events[k / 4usize.pow(digit) % 4]).collect();
@@ -196,13 +202,13 @@ fn all_short_traces_with_undeclared_steps() {
     }
 }
 
-/// Only empty traces, up to the last that is kept: they take ends and no events, 8 counts them, and find says 11 whatever the slice; 3 comes
-/// first. A trace of length 1 beside them is listed as if it were alone.
+/// Only empty traces, up to the last that is kept: they take ends and words and no events, 8 counts them, and find says 11 whatever the
+/// slice; 3 comes first. A trace of length 1 beside them is listed as if it were alone.
 #[test]
 fn only_empty_traces() {
-    for (ends_room, most) in [(1, 1), (7, 7), (4095, 4095), (5000, 4095)] {
+    for (ends_room, words_room, most) in [(1, 1, 1), (7, 9, 7), (9, 7, 7), (4095, 4095, 4095), (5000, 4096, 4095)] {
         let rng = &mut Rng::new(19 + ends_room as u64);
-        let mut history = History::fresh(Archive, rng, 3, 1, ends_room);
+        let mut history = History::fresh(Archive, rng, 3, 1, ends_room, words_room);
         for k in 0..most - 1 {
             assert_eq!(history.call(Call::Add(vec![])).unwrap(), Said::Added);
             if k < 3 || k > most - 4 {
@@ -217,7 +223,7 @@ fn only_empty_traces() {
         assert_eq!(history.call(Call::Find(1, list_for(rng, 200))).unwrap(), Said::Refused(refusal(11, 0)));
         assert_eq!(history.call(Call::Add(vec![])).unwrap(), Said::Refused(refusal(8, 0)));
         assert_eq!(history.call(Call::Read(b"     1  2\n".to_vec())).unwrap(), Said::Refused(refusal(8, 1)));
-        let mut alone = History::fresh(Archive, rng, 3, 1, 1).memory;
+        let mut alone = History::fresh(Archive, rng, 3, 1, 1, 1).memory;
         for memory in [&mut with_one, &mut alone] {
             assert_eq!(compare(&mut Archive, memory, &Call::Read(b"     1  2\n".to_vec())).unwrap(), Said::Read(1));
         }
@@ -248,7 +254,7 @@ fn neither_order_nor_empty_traces_matter() {
             let mut kept = traces.clone();
             kept.resize(traces.len() + rng.below(9), vec![]);
             rng.shuffle(&mut kept);
-            let mut history = History::fresh(Archive, rng, n, 150, 20);
+            let mut history = History::fresh(Archive, rng, n, 150, 20, 20);
             for trace in &kept {
                 assert_eq!(history.call(Call::Add(trace.clone())).unwrap(), Said::Added);
             }
@@ -264,7 +270,7 @@ fn neither_order_nor_empty_traces_matter() {
 #[test]
 fn a_find_at_the_limits() {
     let rng = &mut Rng::new(15);
-    let mut history = History::fresh(Archive, rng, 32, 20000, 4095);
+    let mut history = History::fresh(Archive, rng, 32, 20000, 4095, 4095);
     let traces: Vec<Vec<u8>> = (0..4095).map(|_| (0..4).map(|_| rng.below(32) as u8).collect()).collect();
     assert_eq!(history.call(Call::Read(gen::log(rng, &traces))).unwrap(), Said::Read(4095));
     let said = history.call(Call::Find(100, list_for(rng, 15000))).unwrap();

@@ -88,16 +88,16 @@ fn arbitrary() {
 fn slices_longer_than_32_bits_count() {
     let beyond = (1usize << 32) + 5;
     let opened = Archive.open(1).unwrap();
-    let mut memory = Memory::of(opened, vec![0; beyond], vec![7; 3]);
+    let mut memory = Memory::of(opened, vec![0; beyond], vec![7; 3], vec![9; 3]);
     let mut long = vec![0u8; beyond];
     assert_eq!((Archive.add(&mut memory, &long), memory.record), (Err(refusal(7, 0)), opened));
     long[beyond - 1] = 1;
     assert_eq!((Archive.add(&mut memory, &long), memory.record), (Err(refusal(6, beyond)), opened));
     drop(long);
-    assert_eq!(memory.ends.get(), [7; 3]);
+    assert_eq!((memory.ends.get(), memory.words.get()), (&[7; 3][..], &[9; 3][..]));
     assert_eq!((Archive.add(&mut memory, &[0; 9]), memory.record.traces), (Ok(()), 1));
     assert_eq!((Archive.read(&mut memory, b"     1  0\n"), memory.record.traces), (Ok(1), 2));
-    assert_eq!(memory.ends.get(), [9, 10, 7]);
+    assert_eq!((memory.ends.get(), memory.words.get()), (&[9, 10, 7][..], &[1, 1, 9][..]));
     let mut list = vec![0u16; beyond];
     let said = Archive.find(&memory, 1000, &mut list);
     assert_eq!(said, Ok(FindAnswer { listed: 3, replayed: 8, traces: 2 }));

@@ -1,35 +1,45 @@
 //! The plain finder and the plain watchers of the benchmark give what the model and the ledger give.
 
 use budgieleaf_tests::calls::Calls;
+use budgieleaf_tests::lent::Memory;
+use budgieleaf_tests::memories::{self, right_words, UNSOUND};
 use budgieleaf_tests::oracle::finder::NUMBERS;
 use budgieleaf_tests::oracle::ledger::refusal;
 use budgieleaf_tests::oracle::memory::Model;
 use budgieleaf_tests::oracle::watcher::Watched;
-use budgieleaf_tests::plain::{by_bytes, by_library, find, Automaton};
+use budgieleaf_tests::plain::{by_library, by_words, Automaton};
 use budgieleaf_tests::plain_watcher::{step_lent, Table, Watcher};
 use budgieleaf_tests::rng::{cases, Rng};
-use budgieleaf_tests::{gen, memories, watching};
+use budgieleaf_tests::{gen, watching};
 
 #[test]
 fn the_plain_finder_agrees_with_the_model() {
     let rng = &mut Rng::new(40);
     let automaton = Automaton::new();
-    for case in 0..cases(600) {
-        let memory = if case % 3 == 0 { memories::arbitrary(rng) } else { memories::sound(rng) };
+    for case in 0..cases(800) {
+        let memory = match case % 4 {
+            0 => memories::arbitrary(rng),
+            1 => memories::unsound(rng, case / 4 % UNSOUND.len()),
+            _ => memories::sound(rng),
+        };
         let (threshold, room) = (gen::threshold(rng), rng.pick(&[2 * NUMBERS + 2, 100 * NUMBERS, 15000 * NUMBERS]));
-        let lists: Vec<_> = (0..3)
+        // The finder that does not look at the words answers as if they were right.
+        let (events, ends) = (memory.events.get(), memory.ends.get());
+        let mended = Memory::of(memory.record, events.to_vec(), ends.to_vec(), right_words(events, ends));
+        let lists: Vec<_> = (0..4)
             .map(|which| {
                 let mut list = vec![7; room];
                 let said = match which {
                     0 => Model.find(&memory, threshold, &mut list),
-                    1 => find(&automaton, by_bytes, &memory, threshold, &mut list),
-                    _ => find(&automaton, by_library, &memory, threshold, &mut list),
+                    1 => by_words(&automaton, &memory, threshold, &mut list),
+                    2 => Model.find(&mended, threshold, &mut list),
+                    _ => by_library(&automaton, &memory, threshold, &mut list),
                 };
                 (said, list)
             })
             .collect();
-        assert!(lists[0] == lists[1], "by bytes, case {case}");
-        assert!(lists[0] == lists[2], "by library, case {case}");
+        assert!(lists[0] == lists[1], "by words, case {case}");
+        assert!(lists[2] == lists[3], "by library, case {case}");
     }
 }
 

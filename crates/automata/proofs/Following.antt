@@ -5,16 +5,17 @@ use native.Mathlib.Omega.{arith}
 use mathlib.Core.Path.{◌≡◌, refl, sym, ap, ◌∙◌}
 use mathlib.Core.Bool.{Bool, true, false}
 use mathlib.Core.List.{List, [], ◌∷◌, ◌++◌, map}
-use borrow.Author.Tests.{leb-true, lt-ltb, ltb-true, eqb-true, not-true, ne_eqb}
+use borrow.Author.Tests.{leb-true, ltb-true, eqb-true, not-true, ne_eqb}
 use lib.Dec.{eqb, leb, ltb}
 use lib.ListN.{get_or}
 use Rattle.base.specs.Lists.{range}
-use Rattle.base.proofs.Lists.{all_weaker, range_at}
+use Rattle.base.proofs.Lists.{range_at}
 use Rattle.base.proofs.Bools.{and_left, and_right, either, clash}
 use Rattle.declare.specs.declared.constraints.Constraint.{Constraint}
 use Rattle.declare.specs.Meaning.{meanings, holds, activated, verdict}
 use Rattle.automata.specs.Automata.{next_of, verdict_of, letter, follow, stands, automaton, moves_of, start, advance_all, verdict_by}
 use Rattle.declare.specs.Constraints.{pairs, Over}
+use Rattle.declare.proofs.Occurrence.{below_more}
 use Rattle.declare.specs.Traces.{all_below}
 use Rattle.automata.proofs.Agreement.{follow_right, follow_holds}
 use Rattle.automata.proofs.Shifting.{shifted}
@@ -45,10 +46,6 @@ pub follow_append : (template a b k : ℕ) (trace more : List ℕ)
     → follow template a b k (trace ++ more) ≡ follow template a b (follow template a b k trace) more
 follow_append template a b k [] more = refl
 follow_append template a b k (x ∷ trace) more = follow_append template a b (next_of template k (letter a b x)) trace more
-
--- what is declared is so beside more
-pub below_more : (n n' : ℕ) → n ≤ n' → (trace : List ℕ) → all_below n trace ≡ true → all_below n' trace ≡ true
-below_more n n' h = all_weaker (λ x. ltb x n) (λ x. ltb x n') (λ x small. lt-ltb x n' (omega (arith, ltb-true x n small)))
 
 -- a beside itself is as a beside what no event is
 beside_none : (template n a k : ℕ) (trace : List ℕ) → all_below n trace ≡ true → follow template a a k trace ≡ follow template a n k trace

@@ -16,7 +16,7 @@ use Rattle.declare.specs.Traces.{all_below}
 use Rattle.automata.specs.Outlook.{State}
 use Rattle.automata.specs.Ahead.{outlook_in, state_number, outlook}
 use Rattle.automata.proofs.Shifting.{at_every_state, follow_small}
-use Rattle.automata.proofs.Following.{below_more}
+use Rattle.declare.proofs.Occurrence.{below_more}
 use Rattle.automata.proofs.Outlooks.{exclude, outlook_right}
 
 -- ## One test: in which states it matters whether another activity is declared

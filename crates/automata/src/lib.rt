@@ -2,10 +2,11 @@
 // told by the watcher.
 #![tactic(auto)]
 
+mod packed;
 mod tables;
 
 ghost use Rattle.std.specs.Prelude.{◌+◌, ◌*◌, ◌<◌, ◌≤◌, ◌≡◌, ◌∷◌, [], length};
-ghost use Rattle.automata.specs.Automata.{next_states, state_verdicts, packed as packed_from, moves_word, verdicts_word as verdicts_of, automaton, no_automaton, moves_of, start, advance, advance_all, verdict_by};
+ghost use Rattle.automata.specs.Automata.{next_states, state_verdicts, automaton, no_automaton, moves_of, start, advance, advance_all, verdict_by};
 
 use declare::Verdict;
 
@@ -33,7 +34,8 @@ pub struct Replayer {
     state: u64,
 }
 
-// The table of next states, in bytes: 24 templates, 8 states and 3 letters (a, b, any other), in that order.
+// The table that is believed, for who carries it to another machine: the replay goes by its entries packed (packed.rt).
+// The next states, in bytes: 24 templates, 8 states and 3 letters (a, b, any other), in that order.
 #[tactic(auto, unfolding(crate::specs::Automata::next_states))]
 pub fn next_states() -> [u8; 576]
     ensures { result ≡ next_states }
@@ -47,51 +49,6 @@ pub fn state_verdicts() -> [u8; 192]
     ensures { result ≡ state_verdicts }
 {
     tables::VERDICTS
-}
-
-// 2 to the 56th: a number below it leaves the highest of eight bytes free.
-const SEVEN_BYTES: u64 = 72057594037927936;
-
-// Eight entries of a table as one number, a byte each. The remainders keep it in 64 bits, whatever the entries are; of the tables they
-// take nothing away (proofs/Shifting).
-fn packed(table: &[u8], from: usize, apart: usize, times: u64) -> u64
-    requires { (from + apart * 7 < length table.now) × (times ≤ 8) }
-    ensures { result ≡ packed_from table.now from apart times 8 }
-{
-    let mut word: u64 = 0;
-    for k in (0..8).rev() {
-        let entry = u64::from(table[from + apart * k]);
-        word = word % SEVEN_BYTES * 256 + times * entry % 256;
-    }
-    word
-}
-
-// A template takes 24 bytes of the table, a state three. The table is made on the stack here, and gone when the numbers are there, before
-// the other one is made.
-#[tactic(auto, unfolding(crate::specs::Automata::moves_word))]
-fn moves_words(template: usize) -> [u64; 3]
-    requires low { 1 ≤ template }
-    requires high { template ≤ 24 }
-    ensures { result ≡ moves_word template 0 ∷ moves_word template 1 ∷ moves_word template 2 ∷ [] }
-{
-    let next = next_states();
-    let at = 24 * (template - 1);
-    // Three calls: by `map` over the three starts the proof did not close, for want of what its closure requires.
-    [
-        packed(&next, at, 3, 8),
-        packed(&next, at + 1, 3, 8),
-        packed(&next, at + 2, 3, 8),
-    ]
-}
-
-#[tactic(auto, unfolding(crate::specs::Automata::verdicts_word))]
-fn verdicts_word(template: usize) -> u64
-    requires low { 1 ≤ template }
-    requires high { template ≤ 24 }
-    ensures { result ≡ verdicts_of template }
-{
-    let verdicts = state_verdicts();
-    packed(&verdicts, 8 * (template - 1), 1, 1)
 }
 
 impl Automaton {
@@ -108,20 +65,37 @@ impl Automaton {
     }
 
     // A template's automaton; of a number that is no template's, that of no template.
-    #[tactic(auto, unfolding(crate::specs::Automata::automaton))]
+    // A match with constants: the compiler makes tables of it in read-only memory, where an array would be put onto the stack for each look.
+    #[tactic(auto, unfolding(crate::specs::Automata::automaton, crate::specs::Automata::moves_word, crate::specs::Automata::verdicts_word))]
     pub fn of(template: u8) -> Automaton
         ensures { result ≡ automaton template }
     {
-        if template < 1 || 24 < template {
-            return Automaton::none();
-        }
-        let template = usize::from(template);
-        let [a, b, other] = moves_words(template);
-        Automaton {
-            a,
-            b,
-            other,
-            verdicts: verdicts_word(template),
+        match template {
+            1 => packed::EXISTENCE_1,
+            2 => packed::EXISTENCE_2,
+            3 => packed::EXISTENCE_3,
+            4 => packed::ABSENCE_1,
+            5 => packed::ABSENCE_2,
+            6 => packed::ABSENCE_3,
+            7 => packed::INIT,
+            8 => packed::END,
+            9 => packed::CHOICE,
+            10 => packed::EXCLUSIVE_CHOICE,
+            11 => packed::CO_EXISTENCE,
+            12 => packed::NOT_CO_EXISTENCE,
+            13 => packed::RESPONDED_EXISTENCE,
+            14 => packed::RESPONSE,
+            15 => packed::ALTERNATE_RESPONSE,
+            16 => packed::CHAIN_RESPONSE,
+            17 => packed::PRECEDENCE,
+            18 => packed::ALTERNATE_PRECEDENCE,
+            19 => packed::CHAIN_PRECEDENCE,
+            20 => packed::SUCCESSION,
+            21 => packed::ALTERNATE_SUCCESSION,
+            22 => packed::CHAIN_SUCCESSION,
+            23 => packed::NOT_SUCCESSION,
+            24 => packed::NOT_CHAIN_SUCCESSION,
+            _ => Automaton::none(),
         }
     }
 

@@ -1,5 +1,5 @@
--- A loop that counts the items that pass a test: a chain that filters and counts, or one that makes 1 of each that passes, and else 0, and
--- adds up. The items and the test are parameters.
+-- A loop that counts the items that pass a test: a chain that makes 1 of each that passes, and else 0, and adds up. The items and the test
+-- are parameters.
 -- Assumes nothing.
 use Prim.Native.Nat.{ℕ, ◌+◌, ◌<◌}
 use mathlib.Core.Path.{◌≡◌, sym, ◌∙◌}
@@ -8,28 +8,20 @@ use mathlib.Core.List.{List}
 use native.Mathlib.Omega.{arith}
 use lib.ListN.{length}
 use denote.Param.Members.{Mut}
-use denote.Ref.{Bor}
 use Rattle.std.specs.Prelude.{map, ⊤, Option}
-use Rattle.std.specs.Fn.{Called, CalledAt}
+use Rattle.std.specs.Fn.{Called}
 use Rattle.std.specs.Iterator.{Drains}
-use Rattle.std.specs.Iterator.Adapters.{map_steps, filter_steps}
+use Rattle.std.specs.Iterator.Adapters.{map_steps}
 use Rattle.std.specs.Iterator.Runs.{EachRunFrom}
 use Rattle.std.specs.declared.iter.Map.{Map}
-use Rattle.std.specs.declared.iter.Filter.{Filter}
 use Rattle.std.specs.List.{fold}
 use Rattle.std.proofs.lemmas.Iterator.{YieldsList, YieldsList-from_map}
-use Rattle.std.proofs.lemmas.Iterator.Consumers.{count_from_yields_List, sum_by_from_yields_List, fits_by_from_yields_list, YieldsList-from_filter}
+use Rattle.std.proofs.lemmas.Iterator.Consumers.{sum_by_from_yields_List, fits_by_from_yields_list}
 use Rattle.std.proofs.lemmas.List.Sums.{length-filter}
 use Rattle.base.specs.Lists.{count}
 use Rattle.base.proofs.Lists.{count_at_most}
 
 module _ {S A B F : Type 0} {steps : S → Option A → S → Type 0} {value : A → B} {f : F} {items : List B} (test : B → Bool) where
-  module _
-      {g : Mut F (Bor A × Unit {0}) Bool} {s : Filter S F} (source : YieldsList steps value s.iter items) (callee : s.p ≡ f)
-      (calls : (x : A) (passes : Bool) (f' : F) → CalledAt g f x passes f' → (f' ≡ f) × (passes ≡ test (value x))) where
-    pub filter_counts : {n : ℕ} → ((xs : List A) × Drains (filter_steps steps g) s xs × (n ≡ length xs)) → n ≡ count test items
-    filter_counts {n} ran = count_from_yields_List s n ran (YieldsList-from_filter g test source callee calls)
-
   module _
       {g : Mut F (A × Unit {0}) ℕ} {s : Map S F} (source : YieldsList steps value s.iter items) (callee : s.f ≡ f)
       (calls : (x : A) (n : ℕ) (f' : F) → Called g f (x, tt) n f' → (f' ≡ f) × (n ≡ cond (test (value x)) 1 0)) where

@@ -2,6 +2,7 @@
 -- Assumes nothing.
 use Prim.Native.Nat.{ℕ, zero, suc, ◌+◌, ◌-◌, ◌≤◌, ◌<◌}
 use native.Mathlib.Omega.{arith}
+use native.Mathlib.Numerals.{add-one}
 use native.Mathlib.Decide.{ℕ_discrete}
 use native.Mathlib.Nat.{zero-add, add-zero, add-suc, suc-add, not-suc-le-zero, le_of_suc-le-suc}
 use mathlib.Core.Path.{◌≡◌, refl, sym, ap, ap₂, subst, ◌∙◌}
@@ -14,7 +15,7 @@ use lib.Dec.{eqb, eqb-zero-suc, eqb-suc-suc}
 use lib.ListN.{length, take, drop, get_or, length-append}
 use lib.Seq.{slice, take-nil}
 use Rattle.std.specs.Prelude.{if◌then◌else◌, Some, None}
-use Rattle.std.specs.List.{list_all, position, position_from}
+use Rattle.std.specs.List.{list_all, position, position_from, range_with_len}
 use Rattle.std.proofs.lemmas.Iterator.Adapters.{position_from-zero}
 use Rattle.base.specs.Lists.{filter, count, all, find_index, range, flat_map, equal_lists}
 use Rattle.base.proofs.Bools.{and_left, and_right, and_both, either}
@@ -57,7 +58,7 @@ module _ {A : Type 0} (equal : A → A → Bool) where
 
 -- ## All
 
-all_joined {ℓ} : {A : Type ℓ} (p : A → Bool) (xs ys : List A) → all p (xs ++ ys) ≡ all p xs && all p ys
+pub all_joined {ℓ} : {A : Type ℓ} (p : A → Bool) (xs ys : List A) → all p (xs ++ ys) ≡ all p xs && all p ys
 all_joined p [] ys = refl
 all_joined p (x ∷ xs) ys = ap (λ (b : Bool). p x && b) (all_joined p xs ys) ∙ sym (and_assoc (p x) (all p xs) (all p ys))
 
@@ -258,6 +259,10 @@ count_filter q p (x ∷ xs) = go (q x) refl (count_filter q p xs)
 pub count_append : {A : Type 0} (p : A → Bool) (xs ys : List A) → count p (xs ++ ys) ≡ count p xs + count p ys
 count_append p xs ys = ap length (filter_append p xs ys) ∙ length-append (filter p xs) (filter p ys)
 
+pub count_map : {A B : Type 0} (p : B → Bool) (f : A → B) (xs : List A) → count p (map f xs) ≡ count (λ x. p (f x)) xs
+count_map p f [] = refl
+count_map p f (x ∷ xs) = count_cons p (f x) (map f xs) ∙ rw (count_map p f xs) (sym (count_cons (λ x. p (f x)) x xs))
+
 pub not_counted : {A : Type 0} (p : A → Bool) (xs : List A) → count (λ x. not (p x)) xs + count p xs ≡ length xs
 not_counted p [] = refl
 not_counted p (x ∷ xs) = rw (count_cons p x xs, count_cons (λ x. not (p x)) x xs) (go (p x) (not_counted p xs))
@@ -330,6 +335,11 @@ member_range x first (suc more) low high = go (ℕ_discrete x first) (member_ran
     go : Dec (x ≡ first) → (suc first ≤ x → x < suc first + more → Memᴰ x (range (suc first) more)) → Memᴰ x (range first (suc more))
     go (yes e) f = Memᴰ.head e
     go (no n) f = Memᴰ.tail (f (omega arith) (omega arith))
+
+-- the library's, by its own step
+pub range_same : (first more : ℕ) → range first more ≡ range_with_len first more
+range_same first zero = refl
+range_same first (suc more) = ap (λ l. first ∷ l) (range_same (suc first) more ∙ ap (λ n. range_with_len n more) (sym (add-one first)))
 
 pub range_length : (first more : ℕ) → length (range first more) ≡ more
 range_length first zero = refl

@@ -10,6 +10,7 @@ use Rattle.declare.specs.Meaning.{meanings, holds, activated, fulfilled}
 use Rattle.declare.specs.Constraints.{constraints}
 use Rattle.eventlog.specs.declared.Store.{Store}
 use Rattle.eventlog.specs.Store.{Memory, memory, kept, sound, last_end}
+use Rattle.eventlog.specs.Words.{word_of}
 use Rattle.eventlog.specs.Calls.{empty, declared_front, Opens, Adds}
 use Rattle.columns.specs.Calls.{Reads}
 use Rattle.columns.specs.Log.{lines, log_checks, spelled}
@@ -44,24 +45,24 @@ module _ (number : ℕ) (answer : List ℕ) where
   open_refused there left = returned
 
   abbrev two : Memory
-  two = memory (empty 2) (7 ∷ 7 ∷ []) (9 ∷ 9 ∷ [])
+  two = memory (empty 2) (7 ∷ 7 ∷ []) (9 ∷ 9 ∷ []) (9 ∷ 9 ∷ [])
 
   pub add_refused :
       (left : Memory) → Replied (Adds two (2 ∷ [])) number left answer →
       (number ≡ 6) × (answer ≡ 1 ∷ 0 ∷ 0 ∷ []) × (left ≡ two)
-  unfolding sound last_end declared_front
+  unfolding sound kept word_of last_end declared_front
   add_refused left = replied
 
   pub read_accepted :
       (left : Memory) → Replied (Reads start a_log) number left answer →
-      (number ≡ 0) × (answer ≡ 1 ∷ 0 ∷ 0 ∷ []) × (left ≡ memory (keeping 1) (0 ∷ 0 ∷ 7 ∷ []) (2 ∷ 9 ∷ []))
-  unfolding sound last_end lines log_checks spelled
+      (number ≡ 0) × (answer ≡ 1 ∷ 0 ∷ 0 ∷ []) × (left ≡ memory (keeping 1) (0 ∷ 0 ∷ 7 ∷ []) (2 ∷ 9 ∷ []) (1 ∷ 6 ∷ 6 ∷ []))
+  unfolding sound kept word_of last_end lines log_checks spelled
   read_accepted left = replied
 
   pub find_accepted :
       (left : List ℕ) → Replied (Finds last by_all list) number left answer →
       (number ≡ 0) × (answer ≡ 4 ∷ 8 ∷ 2 ∷ []) × (left ≡ four ++ 9 ∷ 9 ∷ [])
-  unfolding sound last_end kept constraints fulfilments support listed replayed layout fulfilled activated holds meanings
+  unfolding sound word_of last_end kept constraints fulfilments support listed replayed layout fulfilled activated holds meanings
   find_accepted left = replied
 
 -- ## The two histories

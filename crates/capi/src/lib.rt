@@ -59,10 +59,15 @@ pub extern "C" fn budgieleaf_open(n: u32, store: &mut Store) -> u32
 }
 
 #[unsafe(no_mangle)]
-pub extern "C" fn budgieleaf_is_sound(store: &Store, events: &[u8], ends: &[u32]) -> bool
-    ensures { result ≡ sound (lent store.now events.now ends.now) }
+pub extern "C" fn budgieleaf_is_sound(
+    store: &Store,
+    events: &[u8],
+    ends: &[u32],
+    words: &[u32],
+) -> bool
+    ensures { result ≡ sound (lent store.now events.now ends.now words.now) }
 {
-    eventlog::is_sound(*store, events, ends)
+    eventlog::is_sound(*store, events, ends, words)
 }
 
 // Add and read look alike: C has a name for each.
@@ -71,13 +76,14 @@ pub extern "C" fn budgieleaf_add(
     store: &mut Store,
     events: &mut [u8],
     ends: &mut [u32],
+    words: &mut [u32],
     trace: &[u8],
     answer: &mut [u64; 3],
 ) -> u32
-    ensures { CalledFromC (lent store.old events.old ends.old) (add_of trace.now) (to_c result answer.new [])
-        (lent store.new events.new ends.new) }
+    ensures { CalledFromC (lent store.old events.old ends.old words.old) (add_of trace.now) (to_c result answer.new [])
+        (lent store.new events.new ends.new words.new) }
 {
-    put(answer, eventlog::add(store, events, ends, trace))
+    put(answer, eventlog::add(store, events, ends, words, trace))
 }
 
 #[unsafe(no_mangle)]
@@ -85,13 +91,14 @@ pub extern "C" fn budgieleaf_read(
     store: &mut Store,
     events: &mut [u8],
     ends: &mut [u32],
+    words: &mut [u32],
     log: &[u8],
     answer: &mut [u64; 3],
 ) -> u32
-    ensures { CalledFromC (lent store.old events.old ends.old) (read_of log.now) (to_c result answer.new [])
-        (lent store.new events.new ends.new) }
+    ensures { CalledFromC (lent store.old events.old ends.old words.old) (read_of log.now) (to_c result answer.new [])
+        (lent store.new events.new ends.new words.new) }
 {
-    put(answer, columns::read(store, events, ends, log))
+    put(answer, columns::read(store, events, ends, words, log))
 }
 
 #[unsafe(no_mangle)]
@@ -99,17 +106,18 @@ pub extern "C" fn budgieleaf_find(
     store: &Store,
     events: &[u8],
     ends: &[u32],
+    words: &[u32],
     threshold: u32,
     list: &mut [u16],
     answer: &mut [u64; 3],
 ) -> u32
-    ensures { CalledFromC (lent store.now events.now ends.now) (find_of (record { threshold = threshold }) list.old)
-        (to_c result answer.new list.new) (lent store.exit.now events.exit.now ends.exit.now) }
+    ensures { CalledFromC (lent store.now events.now ends.now words.now) (find_of (record { threshold = threshold }) list.old)
+        (to_c result answer.new list.new) (lent store.exit.now events.exit.now ends.exit.now words.exit.now) }
 {
     let settings = Settings { threshold };
     put(
         answer,
-        discovery::find(*store, events, ends, settings, list),
+        discovery::find(*store, events, ends, words, settings, list),
     )
 }
 

@@ -320,7 +320,13 @@ pub fitting :
 fitting o [] s place e w n a =
     let added = added_of o s in
     let last = last_number o s in
-    record { each = e; few = omega (arith, w.few); has_ends = omega (arith, w.has_ends); fits = omega (arith, w.has_events) }
+    record {
+      each = e;
+      few = omega (arith, w.few);
+      has_ends = omega (arith, w.has_ends);
+      has_words = omega (arith, w.has_words);
+      fits = omega (arith, w.has_events);
+    }
 fitting o (line ∷ rest) s place e w n a =
     let p = progress_of o s in
     let l = line_passes o p place line rest a in

@@ -30,6 +30,7 @@ bounded_start m h =
     record {
       few = omega (arith, s.few_traces);
       has_ends = omega (arith, s.has_ends);
+      has_words = omega (arith, s.has_words);
       has_events = s.fits;
       in_reach = omega (arith, last_end_bound m h);
     }

@@ -1,7 +1,7 @@
 -- Laws of the way over a log's lines: what a line without a fault says of the numbers, and the way one line on.
 -- Assumes nothing.
 use Prim.Native.Nat.{ℕ, ◌+◌, ◌≤◌, ◌<◌}
-use mathlib.Core.Path.{◌≡◌, refl, ap, ◌∙◌}
+use mathlib.Core.Path.{◌≡◌, ap, ◌∙◌}
 use mathlib.Core.Bool.{false}
 use mathlib.Core.List.{List, ◌∷◌}
 use native.Mathlib.Omega.{arith}
@@ -10,18 +10,19 @@ use borrow.Author.Tests.{leb-false, eqb-true, eqb-false}
 use Rattle.std.specs.Prelude.{Ok, Err, if◌then◌else◌}
 use Rattle.answers.specs.declared.Reason.{Reason}
 use Rattle.eventlog.specs.declared.Room.{Room}
-use Rattle.eventlog.specs.Store.{most_traces, full}
+use Rattle.eventlog.specs.Store.{full}
 use Rattle.columns.specs.declared.Entry.{Entry}
 use Rattle.columns.specs.declared.Progress.{Progress}
 use Rattle.columns.specs.Log.{Line}
 use Rattle.columns.specs.Survey.{entry_of, Bounded, room_at, placed_of, fault_of, next_progress, step_of, survey_of}
-use Rattle.base.proofs.Bools.{either, clash}
+use Rattle.base.proofs.Bools.{either}
+use Rattle.eventlog.proofs.Adding.{NotFull, not_full}
 
 -- What is known of a line that has no fault.
 pub record Faultless (o : Room) (p : Progress) (entry : Entry) : Type 0 where
   pub declared : entry.activity < o.activities
   pub goes_on : entry.number ≡ p.number → 1 ≤ p.left
-  pub starts : (entry.number ≡ p.number → ⊥) → (o.traces + p.added < most_traces) × (o.traces + p.added < o.space.ends)
+  pub starts : (entry.number ≡ p.number → ⊥) → NotFull (room_at o p)
   pub placed : p.last < o.space.events
 
 module _ (o : Room) (p : Progress) (w : Bounded o p) where
@@ -30,16 +31,6 @@ module _ (o : Room) (p : Progress) (w : Bounded o p) where
       either (leb o.space.events p.last)
       (λ q. let z : Err Reason.NoSpace ≡ Ok tt = rw q at e in absurd cc)
       (λ q. leb-false o.space.events p.last q)
-
-  not_full : full (room_at o p) ≡ false → (o.traces + p.added < most_traces) × (o.traces + p.added < o.space.ends)
-  not_full e =
-      let count = o.traces + p.added in
-      either (eqb count most_traces)
-      (λ q. clash refl (rw q at e))
-      (λ q.
-      let some = eqb-false count most_traces q in
-      let more = eqb-false count o.space.ends (rw q at e) in
-      (omega (arith, w.few), omega (arith, w.has_ends)))
 
   pub faultless : (entry : Entry) → fault_of o p entry ≡ Ok tt → Faultless o p entry
   faultless entry e =
@@ -75,7 +66,7 @@ module _ (o : Room) (p : Progress) (w : Bounded o p) where
           record {
             declared = leb-false o.activities entry.activity r;
             goes_on = λ u. absurd (eqb-false entry.number p.number s u);
-            starts = λ u. not_full t;
+            starts = λ u. not_full (room_at o p) t w.few w.has_ends w.has_words;
             placed = is_placed (rw (s, t) at e);
           }))
 
@@ -88,6 +79,7 @@ module _ (o : Room) (p : Progress) (w : Bounded o p) where
       (record {
         few = w.few;
         has_ends = w.has_ends;
+        has_words = w.has_words;
         has_events = omega (arith, h.placed);
         in_reach = omega (arith, w.in_reach);
       }))
@@ -95,8 +87,9 @@ module _ (o : Room) (p : Progress) (w : Bounded o p) where
       let more = h.starts (eqb-false entry.number p.number q) in
       rw q
       (record {
-        few = omega (arith, more.0);
-        has_ends = omega (arith, more.1);
+        few = omega (arith, more.below_most);
+        has_ends = omega (arith, more.has_end);
+        has_words = omega (arith, more.has_word);
         has_events = omega (arith, h.placed);
         in_reach = omega (arith, w.in_reach);
       }))

@@ -23,7 +23,8 @@ use Rattle.declare.specs.Traces.{longest_trace, all_below}
 use Rattle.fields.specs.Field.{line_feed, well_formed, value, spell}
 use Rattle.fields.proofs.Fields.{length_spell, spelled_is_field, field_is_spelled, value_bound}
 use Rattle.eventlog.specs.declared.Room.{Room}
-use Rattle.eventlog.specs.Store.{most_traces, Memory, total, sound, room, after_traces, full}
+use Rattle.eventlog.specs.Store.{Memory, total, sound, room, after_traces, full}
+use Rattle.eventlog.proofs.Adding.{NotFull, is_not_full}
 use Rattle.eventlog.proofs.Traces.{Acceptable, total_last}
 use Rattle.columns.specs.Log.{Line, line_of, lines, last?, number_falls, same_trace, extend_last, Before, nothing_read, with_line, length_of, line_checks, log_checks_from, log_checks, spelled_from, spelled}
 use Rattle.columns.specs.Layout.{line_text, Numbered, traces_of, written, WritableAfter, Writable, numbered_from, laid_out_after, laid_out, storable, HasRoom, MeansLayout}
@@ -340,9 +341,7 @@ record Placed (r : Room) (before : Before) (line : Line) : Type 0 where
   room_before : HasRoom r before.traces
   declared : line.activity < r.activities
   goes_on : same_trace before.line line ≡ true → length_of (last? before.traces) < longest_trace
-  starts :
-      same_trace before.line line ≡ false →
-      (r.traces + length before.traces < most_traces) × (r.traces + length before.traces < r.space.ends)
+  starts : same_trace before.line line ≡ false → NotFull (after_traces r before.traces)
   fits : r.last + total before.traces < r.space.events
 
 module _ (r : Room) where
@@ -351,7 +350,13 @@ module _ (r : Room) where
       (traces after : List (List ℕ)) → list_all (storable r.activities) traces ≡ true → length traces ≤ length after →
       total after ≡ total traces + 1 → HasRoom r after → HasRoom r traces
   fewer traces after each count size h =
-      record { each = each; few = omega (arith, h.few); has_ends = omega (arith, h.has_ends); fits = omega (arith, h.fits) }
+      record {
+        each = each;
+        few = omega (arith, h.few);
+        has_ends = omega (arith, h.has_ends);
+        has_words = omega (arith, h.has_words);
+        fits = omega (arith, h.fits);
+      }
 
   placed : (before : Before) (line : Line) → HasRoom r (with_line before line).traces → Placed r before line
   placed before line h = by (same_trace before.line line) refl h
@@ -381,7 +386,13 @@ module _ (r : Room) where
                 fewer before.traces (before.traces ++ new ∷ []) (and_left all (storable r.activities new) both) (omega arith) size h;
             declared = (shorter r.activities [] line.activity (and_right all (storable r.activities new) both)).1;
             goes_on = λ e. clash e q;
-            starts = λ e. (omega (arith, h.few), omega (arith, h.has_ends));
+            starts =
+                λ e.
+                record {
+                  below_most = omega (arith, h.few);
+                  has_end = omega (arith, h.has_ends);
+                  has_word = omega (arith, h.has_words);
+                };
             fits = omega (arith, h.fits);
           }
 
@@ -395,14 +406,11 @@ module _ (r : Room) where
   line_passes before place line laid rises p =
       let same = same_trace before.line line in
       let long = length_of (last? before.traces) in
-      let count = r.traces + length before.traces in
       let short : same && eqb long longest_trace ≡ false =
       either same (λ q. let less = p.goes_on q in rw (q, ne_eqb long longest_trace (λ e. omega arith))) (λ q. rw q) in
       let not_full : not same && full (after_traces r before.traces) ≡ false =
       either same (λ q. rw q)
-      (λ q.
-      let less = p.starts q in
-      rw (q, ne_eqb count most_traces (λ e. omega (arith, less.0)), ne_eqb count r.space.ends (λ e. omega (arith, less.1)))) in
+      (λ q. rw q (is_not_full (after_traces r before.traces) (p.starts q))) in
       let declared = lt-leb r.activities line.activity p.declared in
       let fits = le-ltb r.space.events (r.last + total before.traces + 1) (omega (arith, p.fits)) in
       (ap not laid, (rises, (declared, (short, (not_full, (fits, tt))))))
@@ -455,7 +463,13 @@ module _ (m : Memory) (log values : List ℕ) where
   accepted_room : reply (checks_of_read m log) values ≡ gives values → HasRoom (room m) (spelled log)
   accepted_room e =
       let f = fitting_read m log (accepted_sound e) (none_fail (checks_of_read m log) values values e).1 in
-      record { each = acceptable_each m.store.activities (spelled log) f.each; few = f.few; has_ends = f.has_ends; fits = f.fits }
+      record {
+        each = acceptable_each m.store.activities (spelled log) f.each;
+        few = f.few;
+        has_ends = f.has_ends;
+        has_words = f.has_words;
+        fits = f.fits;
+      }
 
 pub means_layout : MeansLayout
 means_layout =

@@ -70,19 +70,25 @@ module _ {m : Memory} {r : Room} {p : Progress} (b : Begun m r p) (log : List �
 
     -- what the second pass writes, with the record's new count, is the memory with the log's traces
     pub appended :
-        (events ends : List ℕ) →
-        memory_in r events ends ≡ lines_written p (memory_in r m.events m.ends) (lines log) →
-        memory (record { activities = m.store.activities; traces = m.store.traces + added }) events ends ≡ with_traces m (spelled log)
+        (events ends words : List ℕ) →
+        memory_in r events ends words ≡ lines_written p (memory_in r m.events m.ends m.words) (lines log) →
+        memory (record { activities = m.store.activities; traces = m.store.traces + added }) events ends words ≡
+        with_traces m (spelled log)
     unfolding spelled
-    appended events ends w =
+    appended events ends words w =
         let all = with_traces m (spelled log) in
-        let left : memory m.store events ends ≡ with_store m.store all =
-        ap (λ (q : Room). memory_in q events ends) (sym b.there) ∙ w
-        ∙ ap (λ (q : Room). lines_written p (memory_in q m.events m.ends) (lines log)) b.there
+        let left : memory m.store events ends words ≡ with_store m.store all =
+        ap (λ (q : Room). memory_in q events ends words) (sym b.there) ∙ w
+        ∙ ap (λ (q : Room). lines_written p (memory_in q m.events m.ends m.words) (lines log)) b.there
         ∙ ap (λ (q : Progress). lines_written q m (lines log)) b.start
         ∙ written m b.is_sound (lines log) no_line 1 tt (bounded_start m b.is_sound) (numbered_lines log) accepted in
         let room_left = (grown (spelled log) m b.is_sound fits).room_left in
         let activities : m.store.activities ≡ all.store.activities = sym (ap (λ (q : Room). q.activities) room_left) in
         let traces : m.store.traces + added ≡ all.store.traces = omega (arith, count, ap (λ (q : Room). q.traces) room_left) in
         λ i.
-        record { store = record { activities = activities i; traces = traces i }; events = (left i).events; ends = (left i).ends }
+        record {
+          store = record { activities = activities i; traces = traces i };
+          events = (left i).events;
+          ends = (left i).ends;
+          words = (left i).words;
+        }

@@ -1,14 +1,15 @@
 -- Laws of the second pass: on an accepted log each line's event has its place, and what is written is the log's traces, added one after
 -- the other.
 -- Assumes nothing.
-use Prim.Native.Nat.{ℕ, ◌+◌, ◌-◌, ◌≤◌}
+use Prim.Native.Nat.{ℕ, ◌+◌, ◌-◌, ◌≤◌, ◌<◌}
 use mathlib.Core.Path.{◌≡◌, refl, sym, ap, ◌∙◌}
 use mathlib.Core.Bool.{true}
 use mathlib.Core.List.{List, [], ◌∷◌, ◌++◌}
 use native.Mathlib.Omega.{arith}
 use lib.Dec.{eqb}
-use lib.ListN.{length, set, length-append}
+use lib.ListN.{length, get_or, set, length-append}
 use lib.Seq.{set-set}
+use Rattle.std.proofs.lemmas.List.{get_or-set_same}
 use borrow.Author.Tests.{eqb-true, eqb-false, eq-eqb, ne_eqb}
 use Rattle.base.proofs.Bools.{either}
 use Rattle.base.proofs.Stores.{sets_append}
@@ -16,6 +17,8 @@ use Rattle.eventlog.specs.declared.Room.{Room}
 use Rattle.eventlog.specs.declared.Store.{Store}
 use Rattle.eventlog.specs.Store.{Memory, memory, with_store, last_end, sound, room}
 use Rattle.eventlog.specs.Calls.{with_trace, with_traces}
+use Rattle.eventlog.specs.Words.{word_of, with_bit}
+use Rattle.eventlog.proofs.WordBits.{one_more, word_of_none}
 use Rattle.std.specs.Prelude.{Some, None, Ok, IsOk, is_ok}
 use Rattle.columns.specs.declared.Entry.{Entry}
 use Rattle.columns.specs.declared.Progress.{Progress}
@@ -49,21 +52,37 @@ module _ (o : Room) (p : Progress) (place : ℕ) {all : List Line} {line : Line}
 
 -- ## What is written
 
+first_word : (x : ℕ) → with_bit 0 x ≡ word_of (x ∷ [])
+first_word x = ap (λ before. with_bit before x) (sym word_of_none) ∙ one_more [] x
+
 module _ (store : Store) (m : Memory) (x place end value : ℕ) where
   -- an event more in a trace that was added last
   event_more :
       (trace : List ℕ) → place ≡ last_end m + length trace → end ≡ m.store.traces → value ≡ last_end m + length trace + 1 →
-      memory store (set (with_trace m trace).events place x) (set (with_trace m trace).ends end value) ≡
-      with_store store (with_trace m (trace ++ (x ∷ [])))
-  event_more trace p e v =
+      m.store.traces < length m.words →
+      (let before = with_trace m trace in
+      memory store (set before.events place x) (set before.ends end value) (set before.words end (with_bit (get_or before.words end 0) x)) ≡
+      with_store store (with_trace m (trace ++ (x ∷ []))))
+  event_more trace p e v has_word =
       let long : last_end m + length trace + 1 ≡ last_end m + length (trace ++ (x ∷ [])) = omega (arith, length-append trace (x ∷ [])) in
-      rw (p, e, v, sym (sets_append trace (x ∷ []) m.events (last_end m)), set-set m.ends m.store.traces (last_end m + length trace) (last_end m + length trace + 1), long)
+      rw (
+        p,
+        e,
+        v,
+        sym (sets_append trace (x ∷ []) m.events (last_end m)),
+        set-set m.ends m.store.traces (last_end m + length trace) (last_end m + length trace + 1),
+        long,
+        get_or-set_same m.words m.store.traces (word_of trace) 0 has_word,
+        one_more trace x,
+        set-set m.words m.store.traces (word_of trace) (word_of (trace ++ (x ∷ []))),
+      )
 
   -- a trace of one event more
   trace_more :
       place ≡ last_end m → end ≡ m.store.traces → value ≡ last_end m + 1 →
-      memory store (set m.events place x) (set m.ends end value) ≡ with_store store (with_trace m (x ∷ []))
-  trace_more p e v = rw (p, e, v)
+      memory store (set m.events place x) (set m.ends end value) (set m.words end (with_bit 0 x)) ≡
+      with_store store (with_trace m (x ∷ []))
+  trace_more p e v = rw (p, e, v, first_word x)
 
 module _ (m : Memory) (h : sound m ≡ true) (line : Line) where
   abbrev written_line : Progress → Memory → Memory
@@ -89,6 +108,7 @@ module _ (m : Memory) (h : sound m ≡ true) (line : Line) where
           each = (acceptable_front m.store.activities traces trace f.each).0;
           few = omega (arith, f.few);
           has_ends = omega (arith, f.has_ends);
+          has_words = omega (arith, f.has_words);
           fits = omega (arith, f.fits);
         }
 
@@ -100,9 +120,11 @@ module _ (m : Memory) (h : sound m ≡ true) (line : Line) where
         let left = (grown traces m h front_fits).room_left in
         let last = ap (λ (r : Room). r.last) left in
         let count = ap (λ (r : Room). r.traces) left in
+        let words = ap (λ (r : Room). r.space.words) left in
+        let long = length-append traces (trace ∷ []) in
         rw (eq-eqb line.number before.number same, extended traces trace x, with_last traces trace m, with_last traces (trace ++ (x ∷ [])) m)
         (event_more m.store (with_traces m traces) x _ _ _ trace
-        (omega (arith, total_last traces trace)) (omega (arith, length-append traces (trace ∷ []))) (omega (arith, total_last traces trace)))
+        (omega (arith, total_last traces trace)) (omega arith) (omega (arith, total_last traces trace)) (omega (arith, f.has_words)))
 
     other_written :
         (line.number ≡ before.number → ⊥) →

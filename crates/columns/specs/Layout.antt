@@ -73,6 +73,7 @@ pub record HasRoom (r : Room) (traces : List (List ℕ)) : Type 0 where
   pub each : list_all (storable r.activities) traces ≡ true
   pub few : r.traces + length traces ≤ most_traces
   pub has_ends : r.traces + length traces ≤ r.space.ends
+  pub has_words : r.traces + length traces ≤ r.space.words
   pub fits : r.last + total traces ≤ r.space.events
 
 -- A log means the traces that were written as it.

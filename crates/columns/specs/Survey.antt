@@ -1,13 +1,14 @@
 -- How the code goes over a log's lines, with numbers for what stands before a line. Nothing here has to be believed: proofs/Agree.antt
 -- and proofs/Written.antt show that it comes to `log_checks` and `spelled`.
 -- Assumes nothing.
-use Rattle.std.specs.Prelude.{ℕ, ◌+◌, ◌-◌, ◌*◌, ◌≤◌, List, [], ◌∷◌, Option, Some, None, Result, Ok, Err, set, eqb, leb, ltb, if◌then◌else◌}
+use Rattle.std.specs.Prelude.{ℕ, ◌+◌, ◌-◌, ◌*◌, ◌≤◌, List, [], ◌∷◌, Option, Some, None, Result, Ok, Err, get_or, set, eqb, leb, ltb, if◌then◌else◌}
 use Rattle.std.specs.Result.{result_and}
 use Rattle.answers.specs.declared.Reason.{Reason}
 use Rattle.answers.specs.declared.Refusal.{Refusal}
 use Rattle.declare.specs.Traces.{longest_trace}
 use Rattle.eventlog.specs.declared.Room.{Room}
 use Rattle.eventlog.specs.Store.{most_traces, Memory, lent, with_kept, full}
+use Rattle.eventlog.specs.Words.{with_bit}
 use Rattle.columns.specs.declared.Entry.{Entry}
 use Rattle.columns.specs.declared.Progress.{Progress}
 use Rattle.columns.specs.Log.{Line}
@@ -26,6 +27,7 @@ at_start r = record { number = 0; left = 0; added = 0; last = r.last }
 pub record Bounded (r : Room) (p : Progress) : Type 0 where
   pub few : r.traces + p.added ≤ most_traces
   pub has_ends : r.traces + p.added ≤ r.space.ends
+  pub has_words : r.traces + p.added ≤ r.space.words
   pub has_events : p.last ≤ r.space.events
   pub in_reach : p.last + p.left ≤ longest_trace * (r.traces + p.added)
 
@@ -65,22 +67,29 @@ survey_of r p place (line ∷ rest) =
 
 -- ## The second pass, over a memory whose record still tells the traces before the log
 
--- the memory of a store with this room, and of what stands behind two references
-abbrev pub memory_in : Room → List ℕ → List ℕ → Memory
-memory_in r events ends = lent (record { activities = r.activities; traces = r.traces }) events ends
+-- the memory of a store with this room, and of what stands behind three references
+abbrev pub memory_in : Room → List ℕ → List ℕ → List ℕ → Memory
+memory_in r events ends words = lent (record { activities = r.activities; traces = r.traces }) events ends words
 
 abbrev pub moved : Progress → Option Entry → Progress
 moved p None = p
 moved p (Some entry) = next_progress p entry.number
 
--- the event at the end of the last trace, and the end of that trace after it
+-- the word of a line's trace before its event: 0 where the line starts the trace, whatever stands there
+abbrev pub word_before : Progress → ℕ → ℕ → ℕ
+word_before p number there = if eqb number p.number then there else 0
+
+-- the event at the end of the last trace, and the end and the word of that trace after it
 abbrev pub line_written : Progress → Option Entry → Memory → Memory
 line_written p None m = m
 line_written p (Some entry) m =
+    let after = next_progress p entry.number in
+    let trace = m.store.traces + after.added - 1 in
     record {
       store = m.store;
       events = set m.events p.last entry.activity;
-      ends = set m.ends (m.store.traces + (next_progress p entry.number).added - 1) (next_progress p entry.number).last;
+      ends = set m.ends trace after.last;
+      words = set m.words trace (with_bit (word_before p entry.number (get_or m.words trace 0)) entry.activity);
     }
 
 -- the memory after the lines

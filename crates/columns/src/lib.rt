@@ -3,11 +3,11 @@
 
 mod reading;
 
-ghost use Rattle.std.specs.Prelude.{◌≡◌, Ok, IsOk, length};
+ghost use Rattle.std.specs.Prelude.{◌≡◌, ◌<◌, Ok, IsOk, length, get_or};
 ghost use Rattle.answers.specs.Answers.{count_said};
 ghost use Rattle.eventlog.specs.Store.{lent};
 ghost use Rattle.columns.specs.Log.{line_of, lines};
-ghost use Rattle.columns.specs.Survey.{entry_of, fault_of, next_progress, survey_of, line_written, lines_written, memory_in};
+ghost use Rattle.columns.specs.Survey.{entry_of, fault_of, next_progress, survey_of, word_before as word_before_of, line_written, lines_written, memory_in};
 ghost use Rattle.columns.specs.Calls.{Reads};
 
 use answers::{Reason, Refusal};
@@ -64,31 +64,59 @@ fn survey(mut reading: Reading, log: &[u8]) -> Result<usize, Refusal>
     Ok(reading.at.added as usize)
 }
 
-// One line's event and its trace's end, written. Events and ends are lent apart, as in `read`.
-fn write_line(reading: Reading, entry: Entry, events: &mut [u8], ends: &mut [u32]) -> Reading
+// The word of a line's trace before its event: 0 where the line starts the trace, whatever its place in the word slice holds.
+fn word_before(at: Progress, number: u32, words: &[u32], trace: usize) -> u32
+    requires { trace < length words.now }
+    ensures { result ≡ word_before_of at number (get_or words.now trace 0) }
+{
+    if number == at.number { words[trace] } else { 0 }
+}
+
+// One line's event, and its trace's end and word after it, written. The buffers are lent apart, as in `read`.
+fn write_line(
+    reading: Reading,
+    entry: Entry,
+    events: &mut [u8],
+    ends: &mut [u32],
+    words: &mut [u32],
+) -> Reading
     requires passes { fault_of reading.room reading.at entry ≡ Ok tt }
     requires events { reading.room.space.events ≡ length events.old }
     requires ends { reading.room.space.ends ≡ length ends.old }
+    requires words { reading.room.space.words ≡ length words.old }
     ensures room { result.room ≡ reading.room }
     ensures at { result.at ≡ next_progress reading.at entry.number }
-    ensures written { memory_in reading.room events.new ends.new ≡ line_written reading.at (Some entry) (memory_in reading.room events.old ends.old) }
+    ensures written { memory_in reading.room events.new ends.new words.new ≡
+        line_written reading.at (Some entry) (memory_in reading.room events.old ends.old words.old) }
 {
     let after = reading.next(entry);
-    events[reading.at.last as usize] = entry.activity as u8;
-    ends[(after.room.traces + after.at.added - 1) as usize] = after.at.last;
+    let trace = (after.room.traces + after.at.added - 1) as usize;
+    let event = entry.activity as u8;
+    let before = word_before(reading.at, entry.number, words, trace);
+    events[reading.at.last as usize] = event;
+    ends[trace] = after.at.last;
+    words[trace] = eventlog::with_bit(before, event);
     after
 }
 
-// The events and ends of a log that the first pass has accepted, written. They are lent apart, as in `read`.
-fn write_lines(mut reading: Reading, events: &mut [u8], ends: &mut [u32], log: &[u8])
+// The events, ends and words of a log that the first pass has accepted, written. They are lent apart, as in `read`.
+fn write_lines(
+    mut reading: Reading,
+    events: &mut [u8],
+    ends: &mut [u32],
+    words: &mut [u32],
+    log: &[u8],
+)
     requires accepted { IsOk (survey_of reading.room reading.at 1 (lines log.now)) }
     requires events { reading.room.space.events ≡ length events.old }
     requires ends { reading.room.space.ends ≡ length ends.old }
-    ensures { memory_in reading.room events.new ends.new ≡ lines_written reading.at (memory_in reading.room events.old ends.old) (lines log.now) }
+    requires words { reading.room.space.words ≡ length words.old }
+    ensures { memory_in reading.room events.new ends.new words.new ≡
+        lines_written reading.at (memory_in reading.room events.old ends.old words.old) (lines log.now) }
 {
     for line in log.chunks(LINE) {
         if let Some(entry) = read_line(line) {
-            reading = write_line(reading, entry, events, ends);
+            reading = write_line(reading, entry, events, ends, words);
         }
     }
 }
@@ -99,14 +127,16 @@ pub fn read(
     store: &mut Store,
     events: &mut [u8],
     ends: &mut [u32],
+    words: &mut [u32],
     log: &[u8],
 ) -> Result<usize, Refusal>
-    ensures { Reads (lent store.old events.old ends.old) log.now (count_said result) (lent store.new events.new ends.new) }
+    ensures { Reads (lent store.old events.old ends.old words.old) log.now (count_said result)
+        (lent store.new events.new ends.new words.new) }
 {
-    let sound_store = SoundStore::new(*store, events, ends).ok_or(Reason::NotSound)?;
+    let sound_store = SoundStore::new(*store, events, ends, words).ok_or(Reason::NotSound)?;
     let start = Reading::start(sound_store);
     let added = survey(start, log)?;
-    write_lines(start, events, ends, log);
+    write_lines(start, events, ends, words, log);
     store.traces += added as u32;
     Ok(added)
 }

@@ -1,5 +1,6 @@
-pub mod Places
-pub mod Summary
 pub mod Deciding
-pub mod Reaching
+pub mod Occurrence
 pub mod Occurring
+pub mod Places
+pub mod Reaching
+pub mod Summary

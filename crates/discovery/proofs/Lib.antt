@@ -1,3 +1,4 @@
+pub mod ByTraces
 pub mod FindContract
 pub mod Listing
 pub mod Orderless

@@ -1,9 +1,32 @@
--- When kept traces are alike.
+-- When kept traces are alike, and that a find goes by them alone.
 -- Assumes nothing.
 use Rattle.std.specs.Prelude.{ℕ, ◌≡◌, true, List, eqb}
 use Rattle.base.specs.Lists.{non_empty, count, equal_lists}
+use Rattle.base.specs.Checks.{Reply, Outcome}
+use Rattle.eventlog.specs.Store.{Memory, sound, kept}
+use Rattle.pruning.specs.declared.Settings.{Settings}
+use Rattle.pruning.specs.Question.{question_over}
+use Rattle.discovery.specs.Calls.{find_checks, find_values, with_list, Finds}
 
 -- kept traces are alike, whatever their order, when each trace of length 1 or more is there equally often
 abbrev pub Alike : List (List ℕ) → List (List ℕ) → Type 0
 Alike kept kept' =
     (trace : List ℕ) → non_empty trace ≡ true → count (equal_lists eqb trace) kept ≡ count (equal_lists eqb trace) kept'
+
+-- A find over N and kept traces alone, with no word in any definition that it rests on.
+abbrev pub FindsOver : ℕ → List (List ℕ) → Settings → List ℕ → Reply → List ℕ → Type 0
+FindsOver n kept settings list =
+    let q = question_over n kept settings in
+    Outcome (find_checks q list) (find_values q) (with_list q list) list
+
+-- "Lists for the same runs are equal with and without the words"
+pub record EqualWithoutWords : Type 0 where
+  -- what find says and leaves in a sound memory is so over its N and its kept traces alone
+  pub without :
+      (m : Memory) (settings : Settings) (list : List ℕ) (said : Reply) (left : List ℕ) → sound m ≡ true → Finds m settings list said left →
+      FindsOver m.store.activities (kept m) settings list said left
+  -- and two memories with one N that keep the same traces, whatever their words' slices, give the same reply and list
+  pub equal :
+      (m m' : Memory) (settings : Settings) (list : List ℕ) (said said' : Reply) (left left' : List ℕ) → sound m ≡ true → sound m' ≡ true →
+      m.store.activities ≡ m'.store.activities → kept m ≡ kept m' → Finds m settings list said left → Finds m' settings list said' left' →
+      (said ≡ said') × (left ≡ left')

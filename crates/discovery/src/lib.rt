@@ -11,7 +11,8 @@ ghost use Rattle.discovery.specs.Calls.{Finds, find_said};
 use answers::{Reason, Refusal};
 use eventlog::{SoundStore, Store};
 use list::{look, pass};
-use pruning::{Query, Settings};
+use pruning::Settings;
+use replay::Query;
 pub use row::{Counts, NUMBERS, Row};
 
 // The constraints listed, those replayed, and R: how many kept traces are of length 1 or more.
@@ -28,12 +29,13 @@ pub fn find(
     store: Store,
     events: &[u8],
     ends: &[u32],
+    words: &[u32],
     settings: Settings,
     list: &mut [u16],
 ) -> Result<Found, Refusal>
-    ensures { Finds (lent store events.now ends.now) settings list.old (find_said result) list.new }
+    ensures { Finds (lent store events.now ends.now words.now) settings list.old (find_said result) list.new }
 {
-    let sound = SoundStore::new(store, events, ends).ok_or(Reason::NotSound)?;
+    let sound = SoundStore::new(store, events, ends, words).ok_or(Reason::NotSound)?;
     if !settings.in_range() {
         return Err(Reason::ThresholdOutOfRange.into());
     }

@@ -2,7 +2,7 @@
 ghost use Rattle.std.specs.Prelude.{◌≡◌, [], ◌∷◌, length};
 ghost use Rattle.declare.specs.Constraints.{constraints};
 ghost use Rattle.discovery.specs.Listing.{listed};
-ghost use Rattle.pruning.specs.Query.{asked_by};
+ghost use Rattle.replay.specs.Query.{asked_by};
 ghost use Rattle.replay.specs.Replays.{Replayable};
 ghost use Rattle.discovery.specs.Passes.{Passes, Considers, TallyFits, none_yet, fit_of};
 
@@ -10,8 +10,8 @@ use crate::row::{Counts, NUMBERS, write};
 use crate::walk::Walk;
 use answers::{Reason, Refusal};
 use declare::{Constraint, Constraints};
-use pruning::{Measure, Query};
-use replay::replay;
+use pruning::{Frequent, Measure};
+use replay::{Query, replay};
 
 // How many constraints so far are listed, and how many were replayed.
 #[derive(Clone, Copy, Debug, PartialEq, Eq)]
@@ -58,10 +58,12 @@ pub(crate) fn pass(query: Query, list: &mut [u16]) -> Tally
         listed: 0,
         replayed: 0,
     };
+    let mut frequent = Frequent::none();
+    frequent.count(query.measure, query.kept.words());
     let mut walk = Walk::new();
     for c in Constraints::over(query.measure.activities as u8) {
         walk = walk.on_to(c);
-        if query.survives(c, walk.class) {
+        if frequent.survives(c, walk.class) {
             walk = walk.with_automaton();
             tally = consider(query, walk, tally, list);
         }

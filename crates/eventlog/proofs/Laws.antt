@@ -1,28 +1,34 @@
 -- Laws of the store that hold for its definitions alone: what a sound memory keeps, and what one trace more changes.
 -- Assumes nothing.
-use Prim.Native.Nat.{ℕ, suc, ◌+◌, ◌*◌, ◌≤◌, ◌<◌}
+use Prim.Native.Nat.{ℕ, suc, ◌+◌, ◌-◌, ◌*◌, ◌≤◌, ◌<◌}
 use native.Mathlib.Numerals.{add-one}
 use native.Mathlib.Omega.{arith}
 use mathlib.Core.Path.{◌≡◌, refl, sym, ap, ◌∙◌}
-use mathlib.Core.Bool.{true, ◌&&◌}
-use mathlib.Core.List.{List, [], ◌∷◌, ◌++◌}
-use borrow.Author.Tests.{leb-true, le-leb}
-use lib.Dec.{leb}
-use lib.ListN.{length, take, drop, length-append, length-set}
+use mathlib.Core.Bool.{true, ◌&&◌, and-true, and_assoc}
+use mathlib.Core.List.{List, [], ◌∷◌, ◌++◌, map, map-append}
+use borrow.Author.Tests.{leb-true, le-leb, eqb-true, eq-eqb}
+use lib.Dec.{leb, ltb, eqb}
+use lib.ListN.{length, take, drop, set, length-append, length-set}
+use Rattle.std.proofs.Common.{take-add}
 use lib.Seq.{slice, length-sets, sets-eq, length-take-le, take-take, take_at, drop_at, take-suc-set}
 use Rattle.std.specs.List.{list_all}
-use Rattle.base.proofs.Lists.{all_append, all_take, all_drop}
+use Rattle.base.specs.Lists.{equal_lists}
+use Rattle.base.proofs.Lists.{part_slice, all_append, all_joined, equal_lists_same, equal_lists_refl}
 use Rattle.base.proofs.Bools.{and_left, and_right, and_both}
 use Rattle.base.proofs.Ranges.{range_facts}
 use Rattle.declare.specs.Traces.{most_activities, longest_trace, declarable, all_below}
 use Rattle.eventlog.specs.Store.{most_traces, Memory, memory, cut, kept, total}
 use Rattle.eventlog.specs.Store.{last_from, last_end, rising, sound, room, after_traces}
 use Rattle.eventlog.specs.Calls.{empty, with_trace}
+use Rattle.eventlog.specs.Words.{word_of}
 
 -- ## A sound memory, by its facts
 
 abbrev pub kept_ends : Memory → List ℕ
 kept_ends m = take m.store.traces m.ends
+
+abbrev pub kept_words : Memory → List ℕ
+kept_words m = take m.store.traces m.words
 
 pub record Sound (m : Memory) : Type 0 where
   pub some_activity : 1 ≤ m.store.activities
@@ -32,6 +38,8 @@ pub record Sound (m : Memory) : Type 0 where
   pub rises : rising 0 (kept_ends m) ≡ true
   pub fits : last_end m ≤ length m.events
   pub declared : all_below m.store.activities (take (last_end m) m.events) ≡ true
+  pub has_words : m.store.traces ≤ length m.words
+  pub right_words : kept_words m ≡ map word_of (kept m)
 
 pub sound_facts : (m : Memory) → sound m ≡ true → Sound m
 unfolding sound
@@ -42,7 +50,11 @@ sound_facts m h =
     let rises = rising 0 (kept_ends m) in
     let fits = leb (last_end m) (length m.events) in
     let declared = all_below m.store.activities (take (last_end m) m.events) in
-    let h5 = and_left (range && few && has_ends && rises && fits) declared h in
+    let has_words = leb m.store.traces (length m.words) in
+    let right_words = equal_lists eqb (kept_words m) (map word_of (kept m)) in
+    let h7 = and_left (range && few && has_ends && rises && fits && declared && has_words) right_words h in
+    let h6 = and_left (range && few && has_ends && rises && fits && declared) has_words h7 in
+    let h5 = and_left (range && few && has_ends && rises && fits) declared h6 in
     let h4 = and_left (range && few && has_ends && rises) fits h5 in
     let h3 = and_left (range && few && has_ends) rises h4 in
     let h2 = and_left (range && few) has_ends h3 in
@@ -54,7 +66,11 @@ sound_facts m h =
       has_ends = leb-true _ _ (and_right (range && few) has_ends h3);
       rises = and_right (range && few && has_ends) rises h4;
       fits = leb-true _ _ (and_right (range && few && has_ends && rises) fits h5);
-      declared = and_right (range && few && has_ends && rises && fits) declared h;
+      declared = and_right (range && few && has_ends && rises && fits) declared h6;
+      has_words = leb-true _ _ (and_right (range && few && has_ends && rises && fits && declared) has_words h7);
+      right_words =
+          equal_lists_same eqb eqb-true (kept_words m) (map word_of (kept m))
+          (and_right (range && few && has_ends && rises && fits && declared && has_words) right_words h);
     }
 
 pub facts_sound : (m : Memory) → Sound m → sound m ≡ true
@@ -68,6 +84,9 @@ facts_sound m s =
       s.rises,
       le-leb _ _ s.fits,
       s.declared,
+      le-leb _ _ s.has_words,
+      s.right_words,
+      equal_lists_refl eqb (λ x. eq-eqb x x refl) (map word_of (kept m)),
     )
 
 -- ## Rising ends
@@ -141,17 +160,31 @@ cut_same from (end ∷ ends) last events events' h within same =
     sym (take-take end last events low) ∙ ap (take end) same ∙ take-take end last events' low in
     cc (ap (drop from) first, cut_same end ends last events events' r.rest within same)
 
--- where what lies before the last end is declared, so are the traces
-cut_declared :
-    (n from : ℕ) (ends : List ℕ) (last : ℕ) (events : List ℕ) → rising from ends ≡ true → last_from from ends ≤ last →
-    all_below n (take last events) ≡ true → list_all (all_below n) (cut from ends events) ≡ true
-cut_declared n from [] last events h within declared = refl
-cut_declared n from (end ∷ ends) last events h within declared =
+-- what lies before the last end is declared just where what lies before the first and all the traces are
+declared_parts :
+    (n from : ℕ) (ends events : List ℕ) → rising from ends ≡ true →
+    all_below n (take (last_from from ends) events) ≡ all_below n (take from events) && list_all (all_below n) (cut from ends events)
+declared_parts n from [] events h = sym (and-true (all_below n (take from events)))
+declared_parts n from (end ∷ ends) events h =
     let r = rising_facts from end ends h in
-    let low : end ≤ last = omega (arith, rises_on end ends r.rest) in
-    and_both _ _
-    (all_drop _ from (take end events) (rw (take-take end last events low) at (all_take _ end (take last events) declared)))
-    (cut_declared n end ends last events r.rest within declared)
+    let front = all_below n (take from events) in
+    let here = all_below n (slice from end events) in
+    let rest = list_all (all_below n) (cut end ends events) in
+    let two : all_below n (take end events) ≡ front && here =
+    ap (λ k. all_below n (take k events)) (there end r.above)
+    ∙ ap (all_below n) (take-add from (end - from) events)
+    ∙ all_joined (λ x. ltb x n) (take from events) (take (end - from) (drop from events))
+    ∙ ap (λ part. front && all_below n part) (part_slice from end events r.above) in
+    declared_parts n end ends events r.rest ∙ ap (λ t. t && rest) two ∙ and_assoc front here rest
+  where
+    there : (end : ℕ) → from ≤ end → end ≡ from + (end - from)
+    there end above = omega arith
+
+-- from the first event on
+pub declared_traces :
+    (n : ℕ) (ends events : List ℕ) → rising 0 ends ≡ true →
+    all_below n (take (last_from 0 ends) events) ≡ list_all (all_below n) (cut 0 ends events)
+declared_traces n ends events h = declared_parts n 0 ends events h
 
 -- ## What a sound memory keeps
 
@@ -165,7 +198,7 @@ pub kept_declared : (m : Memory) → sound m ≡ true → list_all (all_below m.
 unfolding kept last_end
 kept_declared m h =
     let s = sound_facts m h in
-    cut_declared _ 0 (kept_ends m) (last_end m) m.events s.rises (omega arith) s.declared
+    sym (declared_traces m.store.activities (kept_ends m) m.events s.rises) ∙ s.declared
 
 pub last_end_bound : (m : Memory) → sound m ≡ true → last_end m ≤ 4096 * m.store.traces
 unfolding last_end
@@ -181,6 +214,7 @@ pub record Addable (m : Memory) (trace : List ℕ) : Type 0 where
   pub short : length trace ≤ longest_trace
   pub below_most : m.store.traces < most_traces
   pub has_end : m.store.traces < length m.ends
+  pub has_word : m.store.traces < length m.words
   pub fits : last_end m + length trace ≤ length m.events
 
 module _ (m : Memory) (trace : List ℕ) (h : sound m ≡ true) (a : Addable m trace) where
@@ -197,7 +231,7 @@ module _ (m : Memory) (trace : List ℕ) (h : sound m ≡ true) (a : Addable m t
   pub room_added : room (with_trace m trace) ≡ after_traces (room m) (trace ∷ [])
   room_added =
       let more : last_end m + length trace ≡ last_end m + total (trace ∷ []) = omega arith in
-      rw (last_end_added, length-sets, length-set, more)
+      rw (last_end_added, length-sets, length-set m.ends, length-set m.words, more)
 
   length_before : length (take (last_end m) m.events) ≡ last_end m
   length_before = length-take-le (last_end m) m.events s.fits
@@ -216,6 +250,22 @@ module _ (m : Memory) (trace : List ℕ) (h : sound m ≡ true) (a : Addable m t
       ∙ ap (take (last_end m)) events_added
       ∙ take_at (take (last_end m) m.events) trace (last_end m) length_before
 
+  pub kept_added : kept (with_trace m trace) ≡ kept m ++ (trace ∷ [])
+  unfolding kept last_end
+  kept_added =
+      rw (kept_ends_added, cut_snoc, events_added)
+      (cc (
+        cut_same 0 (kept_ends m) (last_end m) _ m.events s.rises (omega arith) events_before,
+        drop_at (take (last_end m) m.events) trace (last_end m) length_before,
+      ))
+
+  words_added : kept_words (with_trace m trace) ≡ map word_of (kept (with_trace m trace))
+  words_added =
+      ap (λ (k : ℕ). take k (set m.words m.store.traces (word_of trace))) (add-one m.store.traces)
+      ∙ take-suc-set m.words m.store.traces (word_of trace) a.has_word
+      ∙ (ap (λ (l : List ℕ). l ++ (word_of trace ∷ [])) s.right_words
+      ∙ sym (ap (map word_of) kept_added ∙ map-append word_of (kept m) (trace ∷ [])))
+
   pub sound_added : sound (with_trace m trace) ≡ true
   unfolding last_end
   sound_added =
@@ -228,22 +278,15 @@ module _ (m : Memory) (trace : List ℕ) (h : sound m ≡ true) (a : Addable m t
         rises = rw kept_ends_added (rising_snoc 0 (kept_ends m) _ s.rises (omega arith) (omega (arith, a.short)));
         fits = rw last_end_added (simp length-sets a.fits);
         declared = rw (last_end_added, events_added) (all_append _ (take (last_end m) m.events) trace s.declared a.declared);
+        has_words = simp length-set (omega (arith, a.has_word));
+        right_words = words_added;
       })
-
-  pub kept_added : kept (with_trace m trace) ≡ kept m ++ (trace ∷ [])
-  unfolding kept last_end
-  kept_added =
-      rw (kept_ends_added, cut_snoc, events_added)
-      (cc (
-        cut_same 0 (kept_ends m) (last_end m) _ m.events s.rises (omega arith) events_before,
-        drop_at (take (last_end m) m.events) trace (last_end m) length_before,
-      ))
 
 -- ## A fresh store
 
-module _ (n : ℕ) (events ends : List ℕ) where
+module _ (n : ℕ) (events ends words : List ℕ) where
   abbrev pub fresh : Memory
-  fresh = memory (empty n) events ends
+  fresh = memory (empty n) events ends words
 
   pub fresh_kept : kept fresh ≡ []
   unfolding kept
@@ -262,4 +305,6 @@ module _ (n : ℕ) (events ends : List ℕ) where
         rises = refl;
         fits = omega arith;
         declared = refl;
+        has_words = omega arith;
+        right_words = sym (ap (map word_of) fresh_kept);
       })

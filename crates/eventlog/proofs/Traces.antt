@@ -23,6 +23,7 @@ pub record Fitting (r : Room) (traces : List (List ℕ)) : Type 0 where
   pub each : Acceptable r.activities traces
   pub few : r.traces + length traces ≤ most_traces
   pub has_ends : r.traces + length traces ≤ r.space.ends
+  pub has_words : r.traces + length traces ≤ r.space.words
   pub fits : r.last + total traces ≤ r.space.events
 
 -- sound, with the room that is left after these traces, keeping the old traces and then these
@@ -43,12 +44,19 @@ module _ (m : Memory) (trace : List ℕ) (traces : List (List ℕ)) (f : Fitting
         short = f.each.1;
         below_most = omega (arith, f.few);
         has_end = omega (arith, f.has_ends);
+        has_word = omega (arith, f.has_words);
         fits = omega (arith, f.fits);
       }
 
   rest_fits : Fitting (after_traces (room m) (trace ∷ [])) traces
   rest_fits =
-      record { each = f.each.2; few = omega (arith, f.few); has_ends = omega (arith, f.has_ends); fits = omega (arith, f.fits) }
+      record {
+        each = f.each.2;
+        few = omega (arith, f.few);
+        has_ends = omega (arith, f.has_ends);
+        has_words = omega (arith, f.has_words);
+        fits = omega (arith, f.fits);
+      }
 
 -- the traces that one room is left after, and those after them
 after_both : (r : Room) (trace : List ℕ) (traces : List (List ℕ)) → after_traces (after_traces r (trace ∷ [])) traces ≡ after_traces r (trace ∷ traces)

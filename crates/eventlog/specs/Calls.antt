@@ -10,6 +10,7 @@ use Rattle.declare.specs.Traces.{longest_trace, declarable, all_below}
 use Rattle.eventlog.specs.declared.Room.{Room}
 use Rattle.eventlog.specs.declared.Store.{Store}
 use Rattle.eventlog.specs.Store.{Memory, last_end, sound, room, full, lacks}
+use Rattle.eventlog.specs.Words.{word_of}
 
 abbrev pub unsound : Memory → Check
 unsound m = not (sound m) refuses 1 with 0
@@ -60,6 +61,7 @@ with_trace m trace =
       store = record { activities = m.store.activities; traces = m.store.traces + 1 };
       events = sets m.events (last_end m) trace;
       ends = set m.ends m.store.traces (last_end m + length trace);
+      words = set m.words m.store.traces (word_of trace);
     }
 
 -- with several, one after the other

@@ -5,9 +5,9 @@ use Rattle.eventlog.specs.declared.kept_traces.KeptParts.{KeptParts}
 use Rattle.eventlog.specs.declared.sound_store.SoundStore.{SoundStore}
 use Rattle.eventlog.specs.Store.{Memory, lent, cut}
 
--- the record beside what stands behind its two references
+-- the record beside what stands behind its three references
 abbrev pub memory_of : SoundStore → Memory
-memory_of s = lent s.store s.events.now s.ends.now
+memory_of s = lent s.store s.events.now s.ends.now s.words.now
 
 -- the traces that its ends cut off
 abbrev pub traces_in : KeptParts → List (List ℕ)

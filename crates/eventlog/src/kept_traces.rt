@@ -1,30 +1,45 @@
 // The kept parts of a sound store, and the traces that lie in them, one after the other.
-ghost use Rattle.std.specs.Prelude.{◌≡◌, ◌≤◌, true, length};
+ghost use Rattle.std.specs.Prelude.{◌≡◌, ◌≤◌, true, length, map};
 ghost use Rattle.eventlog.specs.Store.{cut, rising, last_from, most_traces};
+ghost use Rattle.eventlog.specs.Words.{word_of};
 
 use std::marker::Model;
 
-// The buffers of a sound store, the ends cut to those of the traces that are kept. What goes over the traces is lent these, and no record.
+// The words of the traces that are kept, and no events. What counts traces by the activities that occur in them is lent these.
+#[derive(Clone, Copy)]
+pub struct KeptWords<'a> {
+    pub words: &'a [u32],
+    ghost few: { length words.now ≤ most_traces },
+}
+
+// The buffers of a sound store, the ends and the words cut to those of the traces that are kept. What goes over the traces is lent these, and no
+// record.
 #[derive(Clone, Copy)]
 pub struct KeptParts<'a> {
     pub(crate) events: &'a [u8],
     pub(crate) ends: &'a [u32],
+    pub(crate) words: &'a [u32],
     ghost rise: { rising 0 ends.now ≡ true },
     ghost fit: { last_from 0 ends.now ≤ length events.now },
     ghost few: { length ends.now ≤ most_traces },
+    ghost of_traces: { words.now ≡ map word_of (cut 0 ends.now events.now) },
 }
 
 impl<'a> KeptParts<'a> {
+    ghost use Rattle.std.specs.Prelude.{map};
     ghost use Rattle.eventlog.specs.SoundStore.{traces_in};
+    ghost use Rattle.eventlog.specs.Words.{word_of};
 
     pub fn traces(self) -> KeptTraces<'a>
         ensures { result ≡ traces_in self.entry }
     {
-        KeptTraces {
-            events: self.events,
-            ends: self.ends,
-            from: 0,
-        }
+        KeptTraces::cut(self.events, self.ends)
+    }
+
+    pub fn words(self) -> KeptWords<'a>
+        ensures { result.words.now ≡ map word_of (traces_in self.entry) }
+    {
+        KeptWords { words: self.words }
     }
 }
 
@@ -34,6 +49,24 @@ pub struct KeptTraces<'a> {
     events: &'a [u8],
     ends: &'a [u32],
     from: u32,
+}
+
+impl<'a> KeptTraces<'a> {
+    ghost use Rattle.std.specs.Prelude.{◌≡◌, ◌≤◌, true, length};
+    ghost use Rattle.eventlog.specs.Store.{cut, rising, last_from};
+
+    // The traces that these ends cut off.
+    pub(crate) fn cut(events: &'a [u8], ends: &'a [u32]) -> KeptTraces<'a>
+        requires rise { rising 0 ends.now ≡ true }
+        requires fit { last_from 0 ends.now ≤ length events.now }
+        ensures { result ≡ cut 0 ends.now events.now }
+    {
+        KeptTraces {
+            events,
+            ends,
+            from: 0,
+        }
+    }
 }
 
 impl<'a> Model for KeptTraces<'a> {

@@ -3,19 +3,23 @@
 
 mod kept_traces;
 mod sound_store;
+mod words;
 
-ghost use Rattle.std.specs.Prelude.{◌≡◌, ◌≤◌, [], ◌+◌, not, ltb, length, position, IfOk};
+ghost use Rattle.std.specs.Prelude.{◌≡◌, ◌≤◌, ◌&&◌, [], ◌+◌, not, eqb, ltb, length, position, IfOk};
 ghost use Rattle.std.proofs.lemmas.List.Edits.{sets};
 ghost use Rattle.base.specs.Checks.{gives, reply};
 ghost use Rattle.answers.specs.Answers.{done_said, said_by};
 ghost use Rattle.declare.specs.Traces.{all_below};
 ghost use Rattle.eventlog.specs.Calls.{Adds, checks_of_add, open_said, opened, Opens, with_trace};
 ghost use Rattle.eventlog.specs.Store.{lent, last_end as last_end_of, last_kept, rising, sound, room, full as full_test};
+ghost use Rattle.eventlog.specs.Words.{word_of};
 
 use answers::{Reason, Refusal};
 use declare::LONGEST_TRACE;
-pub use kept_traces::{KeptParts, KeptTraces};
+pub use kept_traces::{KeptParts, KeptTraces, KeptWords};
 pub use sound_store::SoundStore;
+use words::word_of;
+pub use words::{bit_of, with_bit};
 
 // The record: how many activities (document 01: steps, numbers below N) are declared, and how many traces are kept. C passes it as it is,
 // and the traces are counted here and not by a length, since document 01 has ends lent with room to spare.
@@ -26,11 +30,13 @@ pub struct Store {
     pub traces: u32,
 }
 
-// The lengths of the two lent buffers: the events (01: kept steps) lie in the first, the ends of the traces in the second.
+// The lengths of the three lent buffers: the events (01: kept steps) lie in the first, the ends of the traces in the second, their words
+// (document 02: step words) in the third.
 #[derive(Clone, Copy, Debug, PartialEq, Eq)]
 pub struct Space {
     pub events: usize,
     pub ends: usize,
+    pub words: usize,
 }
 
 // What is left in a store: the activities declared, the traces kept and their last end, and the space.
@@ -79,11 +85,18 @@ fn ends_rise(ends: &[u32]) -> bool
     true
 }
 
-// Whether all events are declared.
-fn all_declared(n: u32, events: &[u8]) -> bool
-    ensures { result ≡ all_below n events.now }
+// What a sound store asks of each trace: its events are declared, and the word beside it is its word. Each event is read once.
+fn is_sound_trace(n: u32, trace: &[u8], word: u32) -> bool
+    ensures { result ≡ (all_below n trace.now && eqb word (word_of trace.now)) }
 {
-    events.iter().all(|&event| u32::from(event) < n)
+    let mut made = 0;
+    for &event in trace {
+        if n <= u32::from(event) {
+            return false;
+        }
+        made = with_bit(made, event);
+    }
+    word == made
 }
 
 // The place, from 0, of the first undeclared event.
@@ -93,25 +106,31 @@ fn first_undeclared(n: u32, events: &[u8]) -> Option<usize>
     events.iter().position(|&event| n <= u32::from(event))
 }
 
-// Whether the record and the buffers are sound: one pass over the kept ends, and one over the kept events.
+// Whether the record and the buffers are sound: one pass over the kept ends, and one over the kept traces with their words.
 #[tactic(auto, unfolding(crate::specs::Store::sound, crate::specs::Store::last_end))]
-pub fn is_sound(store: Store, events: &[u8], ends: &[u32]) -> bool
-    ensures { result ≡ sound (lent store events.now ends.now) }
+pub fn is_sound(store: Store, events: &[u8], ends: &[u32], words: &[u32]) -> bool
+    ensures { result ≡ sound (lent store events.now ends.now words.now) }
 {
     let traces = store.traces as usize;
-    if !declare::declarable(store.activities) || MOST_TRACES < store.traces || ends.len() < traces {
+    if !declare::declarable(store.activities) || MOST_TRACES < store.traces {
         return false;
     }
-    if !ends_rise(&ends[..traces]) {
+    if ends.len() < traces || words.len() < traces {
         return false;
     }
-    let last = last_end(store, ends) as usize;
-    last <= events.len() && all_declared(store.activities, &events[..last])
+    let n = store.activities;
+    let kept = &ends[..traces];
+    if !ends_rise(kept) || events.len() < last_end(store, ends) as usize {
+        return false;
+    }
+    KeptTraces::cut(events, kept)
+        .zip(words[..traces].iter())
+        .all(|(trace, &word)| is_sound_trace(n, trace, word))
 }
 
 // What is left in a store. Any record and slices may come in.
-pub fn room_of(store: Store, events: &[u8], ends: &[u32]) -> Room
-    ensures { result ≡ room (lent store events.now ends.now) }
+pub fn room_of(store: Store, events: &[u8], ends: &[u32], words: &[u32]) -> Room
+    ensures { result ≡ room (lent store events.now ends.now words.now) }
 {
     Room {
         activities: store.activities,
@@ -120,6 +139,7 @@ pub fn room_of(store: Store, events: &[u8], ends: &[u32]) -> Room
         space: Space {
             events: events.len(),
             ends: ends.len(),
+            words: words.len(),
         },
     }
 }
@@ -129,16 +149,23 @@ impl Room {
     pub fn is_full(self) -> bool
         ensures { result ≡ full_test self }
     {
-        self.traces == MOST_TRACES || self.traces as usize == self.space.ends
+        let traces = self.traces as usize;
+        self.traces == MOST_TRACES || traces == self.space.ends || traces == self.space.words
     }
 }
 
 // Where the events of a trace go that add accepts. Nothing is written before this is known.
-fn place_for(store: Store, events: &[u8], ends: &[u32], trace: &[u8]) -> Result<usize, Refusal>
-    ensures says { said_by (λ place. []) result ≡ reply (checks_of_add (lent store events.now ends.now) trace.now) [] }
-    ensures place { IfOk result (λ place. place ≡ last_end_of (lent store events.now ends.now)) }
+fn place_for(
+    store: Store,
+    events: &[u8],
+    ends: &[u32],
+    words: &[u32],
+    trace: &[u8],
+) -> Result<usize, Refusal>
+    ensures says { said_by (λ place. []) result ≡ reply (checks_of_add (lent store events.now ends.now words.now) trace.now) [] }
+    ensures place { IfOk result (λ place. place ≡ last_end_of (lent store events.now ends.now words.now)) }
 {
-    let sound = SoundStore::new(store, events, ends).ok_or(Reason::NotSound)?;
+    let sound = SoundStore::new(store, events, ends, words).ok_or(Reason::NotSound)?;
     if let Some(place) = first_undeclared(store.activities, trace) {
         return Err(Reason::Undeclared.with(place + 1));
     }
@@ -167,28 +194,38 @@ fn copy_in(events: &mut [u8], from: usize, trace: &[u8])
     }
 }
 
-// Appends the events and the end of a trace that add accepts, from the last kept end on. They are lent apart, as in `add`.
-fn append(store: &mut Store, events: &mut [u8], ends: &mut [u32], trace: &[u8], from: usize)
-    requires accepted { gives [] ≡ reply (checks_of_add (lent store.old events.old ends.old) trace.now) [] }
-    requires place { from ≡ last_end_of (lent store.old events.old ends.old) }
-    ensures { lent store.new events.new ends.new ≡ with_trace (lent store.old events.old ends.old) trace.now }
+// Appends the events, the end and the word of a trace that add accepts, from the last kept end on. They are lent apart, as in `add`.
+fn append(
+    store: &mut Store,
+    events: &mut [u8],
+    ends: &mut [u32],
+    words: &mut [u32],
+    trace: &[u8],
+    from: usize,
+)
+    requires accepted { gives [] ≡ reply (checks_of_add (lent store.old events.old ends.old words.old) trace.now) [] }
+    requires place { from ≡ last_end_of (lent store.old events.old ends.old words.old) }
+    ensures { lent store.new events.new ends.new words.new ≡ with_trace (lent store.old events.old ends.old words.old) trace.now }
 {
     copy_in(events, from, trace);
     ends[store.traces as usize] = (from + trace.len()) as u32;
+    words[store.traces as usize] = word_of(trace);
     store.traces += 1;
 }
 
 // Appends a trace. A refused call changes no byte.
-// The record and its buffers are lent apart, as C lends them; one struct of the three was tried (docs/DECISIONS.md, the store).
+// The record and its buffers are lent apart, as C lends them; one struct of these was tried (docs/DECISIONS.md, the store).
 pub fn add(
     store: &mut Store,
     events: &mut [u8],
     ends: &mut [u32],
+    words: &mut [u32],
     trace: &[u8],
 ) -> Result<(), Refusal>
-    ensures { Adds (lent store.old events.old ends.old) trace.now (done_said result) (lent store.new events.new ends.new) }
+    ensures { Adds (lent store.old events.old ends.old words.old) trace.now (done_said result)
+        (lent store.new events.new ends.new words.new) }
 {
-    let from = place_for(*store, events, ends, trace)?;
-    append(store, events, ends, trace, from);
+    let from = place_for(*store, events, ends, words, trace)?;
+    append(store, events, ends, words, trace, from);
     Ok(())
 }

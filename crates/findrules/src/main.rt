@@ -29,6 +29,7 @@ fn main(rt: HostRuntime) -> io::Result<()> {
     let mut arrays = report::Arrays {
         events: [0; report::LENT_EVENTS],
         ends: [0; report::LENT_ENDS],
+        words: [0; report::LENT_WORDS],
         list: [0; report::LIST],
     };
     let mut out = [0u8; report::OUT];

@@ -30,7 +30,7 @@ use Rattle.history.specs.Histories.{Called, Fresh, Keeps}
 empty_keeps : (n : ℕ) (m : Memory) → declarable n ≡ true → Keeps (space m) (first_ledger n) (with_store (empty n) m)
 unfolding last_end
 empty_keeps n m declared =
-    record { is_sound = fresh_sound n m.events m.ends declared; traces = fresh_kept n m.events m.ends; same_room = refl }
+    record { is_sound = fresh_sound n m.events m.ends m.words declared; traces = fresh_kept n m.events m.ends m.words; same_room = refl }
 
 pub fresh_keeps : (m : Memory) → Fresh m → Keeps (space m) (first_ledger m.store.activities) m
 fresh_keeps m f =

@@ -13,6 +13,7 @@ use Rattle.declare.specs.Constraints.{constraints}
 use Rattle.eventlog.specs.declared.Space.{Space}
 use Rattle.eventlog.specs.declared.Store.{Store}
 use Rattle.eventlog.specs.Store.{Memory, memory, kept, sound, last_end}
+use Rattle.eventlog.specs.Words.{word_of}
 use Rattle.eventlog.specs.Calls.{declared_front}
 use Rattle.columns.specs.Log.{lines, log_checks, spelled}
 use Rattle.pruning.specs.declared.Settings.{Settings}
@@ -46,7 +47,7 @@ four_found = gives (4 ∷ 8 ∷ 2 ∷ [])
 -- ## A history of open, add, a refused add and read, and an accepted find behind it
 
 abbrev pub start : Memory
-start = memory (keeping 0) (7 ∷ 7 ∷ 7 ∷ []) (9 ∷ 9 ∷ [])
+start = memory (keeping 0) (7 ∷ 7 ∷ 7 ∷ []) (9 ∷ 9 ∷ []) (6 ∷ 6 ∷ 6 ∷ [])
 
 -- "     1  0" twice, each with its line feed
 abbrev pub a_log : List ℕ
@@ -62,13 +63,13 @@ abbrev pub shown : List Shown
 shown = only (gives (1 ∷ 0 ∷ [])) ∷ only (gives []) ∷ only (refused 6 2) ∷ only (gives (1 ∷ [])) ∷ []
 
 abbrev one_kept : Memory
-one_kept = memory (keeping 1) (0 ∷ 7 ∷ 7 ∷ []) (1 ∷ 9 ∷ [])
+one_kept = memory (keeping 1) (0 ∷ 7 ∷ 7 ∷ []) (1 ∷ 9 ∷ []) (1 ∷ 6 ∷ 6 ∷ [])
 
 abbrev pub last : Memory
-last = memory (keeping 2) (0 ∷ 0 ∷ 0 ∷ []) (1 ∷ 3 ∷ [])
+last = memory (keeping 2) (0 ∷ 0 ∷ 0 ∷ []) (1 ∷ 3 ∷ []) (1 ∷ 1 ∷ 6 ∷ [])
 
 pub is_history : History start calls shown last
-unfolding sound last_end declared_front lines log_checks spelled
+unfolding sound kept word_of last_end declared_front lines log_checks spelled
 is_history = (
   start,
   (keeping 0, some_outcome, refl, refl),
@@ -91,19 +92,19 @@ abbrev pub found : Shown
 found = record { said = four_found; list = four ++ 9 ∷ 9 ∷ [] }
 
 pub finds : Called last (find by_all list) found last
-unfolding sound last_end kept constraints fulfilments support listed replayed layout fulfilled activated holds meanings
+unfolding sound word_of last_end kept constraints fulfilments support listed replayed layout fulfilled activated holds meanings
 finds = (some_outcome, refl)
 
 -- a slice one number too short
 pub too_short : Called last (find by_all (replicate 15 9)) (record { said = refused 10 4; list = replicate 15 9 }) last
-unfolding sound last_end kept constraints fulfilments support listed replayed layout fulfilled activated holds meanings
+unfolding sound word_of last_end kept constraints fulfilments support listed replayed layout fulfilled activated holds meanings
 too_short = (some_outcome, refl)
 
 abbrev pub one : FindIn
 one =
     record {
       start = start;
-      is_fresh = histories_exist.fresh 1 start.events start.ends refl;
+      is_fresh = histories_exist.fresh 1 start.events start.ends start.words refl;
       before = calls;
       shown_before = shown;
       memory = last;
@@ -121,7 +122,7 @@ is_accepted = (4 ∷ 8 ∷ 2 ∷ [], refl)
 -- ## Another: the traces in the other order, an empty one between them, other buffers and another slice
 
 abbrev pub start' : Memory
-start' = memory (keeping 0) (5 ∷ 5 ∷ 5 ∷ 5 ∷ []) (8 ∷ 8 ∷ 8 ∷ [])
+start' = memory (keeping 0) (5 ∷ 5 ∷ 5 ∷ 5 ∷ []) (8 ∷ 8 ∷ 8 ∷ []) (4 ∷ 4 ∷ 4 ∷ [])
 
 abbrev pub calls' : List Call
 calls' = add (0 ∷ 0 ∷ []) ∷ add [] ∷ add (0 ∷ []) ∷ []
@@ -130,10 +131,10 @@ abbrev pub shown' : List Shown
 shown' = only (gives []) ∷ only (gives []) ∷ only (gives []) ∷ []
 
 abbrev pub last' : Memory
-last' = memory (keeping 3) (0 ∷ 0 ∷ 0 ∷ 5 ∷ []) (2 ∷ 2 ∷ 3 ∷ [])
+last' = memory (keeping 3) (0 ∷ 0 ∷ 0 ∷ 5 ∷ []) (2 ∷ 2 ∷ 3 ∷ []) (1 ∷ 0 ∷ 1 ∷ [])
 
 pub is_history' : History start' calls' shown' last'
-unfolding sound last_end declared_front
+unfolding sound kept word_of last_end declared_front
 is_history' = (
   _,
   (some_outcome, refl),
@@ -151,14 +152,14 @@ abbrev pub found' : Shown
 found' = record { said = four_found; list = four ++ 3 ∷ [] }
 
 pub finds' : Called last' (find by_all list') found' last'
-unfolding sound last_end kept constraints fulfilments support listed replayed layout fulfilled activated holds meanings
+unfolding sound word_of last_end kept constraints fulfilments support listed replayed layout fulfilled activated holds meanings
 finds' = (some_outcome, refl)
 
 abbrev pub other : FindIn
 other =
     record {
       start = start';
-      is_fresh = histories_exist.fresh 1 start'.events start'.ends refl;
+      is_fresh = histories_exist.fresh 1 start'.events start'.ends start'.words refl;
       before = calls';
       shown_before = shown';
       memory = last';
@@ -179,7 +180,7 @@ abbrev with_a_third : List ℕ → Ledger
 with_a_third trace = record { activities = 1; traces = [] ∷ (0 ∷ 0 ∷ 0 ∷ []) ∷ trace ∷ [] }
 
 abbrev roomy : Space
-roomy = record { events = 9; ends = 9 }
+roomy = record { events = 9; ends = 9; words = 9 }
 
 learned :
     (next_ledger roomy two_kept (open_for 2) ≡ first_ledger 2)
@@ -192,12 +193,18 @@ learned :
 unfolding lines log_checks spelled declared_front
 learned = (refl, refl, refl, refl, refl, refl, refl)
 
--- each call is shown by the ledger behind those before it: what is full is 8, and an undeclared activity's place is from the front
-shown_in_turn :
-    ledger_shows (memory (keeping 0) (7 ∷ 7 ∷ 7 ∷ []) (9 ∷ [])) (add (0 ∷ 0 ∷ 1 ∷ 0 ∷ []) ∷ add [] ∷ add [] ∷ read a_log ∷ [])
-    ≡ only (refused 6 3) ∷ only (gives []) ∷ only (refused 8 0) ∷ only (refused 8 1) ∷ []
+-- each call is shown by the ledger behind those before it: what is full, by its ends or by its words, is 8, and an undeclared activity's place
+-- is from the front
+abbrev one_has_room : List ℕ → List ℕ → List Shown
+one_has_room ends words =
+    ledger_shows (memory (keeping 0) (7 ∷ 7 ∷ 7 ∷ []) ends words) (add (0 ∷ 0 ∷ 1 ∷ 0 ∷ []) ∷ add [] ∷ add [] ∷ read a_log ∷ [])
+
+abbrev two_full : List Shown
+two_full = only (refused 6 3) ∷ only (gives []) ∷ only (refused 8 0) ∷ only (refused 8 1) ∷ []
+
+shown_in_turn : (one_has_room (9 ∷ []) (9 ∷ 9 ∷ []) ≡ two_full) × (one_has_room (9 ∷ 9 ∷ []) (9 ∷ []) ≡ two_full)
 unfolding lines log_checks spelled declared_front
-shown_in_turn = refl
+shown_in_turn = (refl, refl)
 
 -- ## The two finds are alike, and give equal lists and numbers
 

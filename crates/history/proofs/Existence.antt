@@ -21,7 +21,7 @@ pub histories_exist : HistoriesExist
 histories_exist =
     record {
       fresh =
-          λ n events ends declared.
+          λ n events ends words declared.
           let accepted = sym (none_fail_reply (open_checks n) (n ∷ 0 ∷ []) (rw declared, tt)) in
           record { n = n; there = empty n; values = n ∷ 0 ∷ []; opens = outcome_accepted accepted refl refl };
       history = chain_there call_there;

@@ -174,6 +174,6 @@ pub record FollowsLedger : Type 0 where
 -- Histories are there: the claim does not speak of nothing.
 pub record HistoriesExist : Type 0 where
   -- what an accepted open gives for n is fresh, beside any buffers
-  pub fresh : (n : ℕ) (events ends : List ℕ) → declarable n ≡ true → Fresh (memory (empty n) events ends)
+  pub fresh : (n : ℕ) (events ends words : List ℕ) → declarable n ≡ true → Fresh (memory (empty n) events ends words)
   -- in any memory, and so from a fresh store, all calls can be made, one after the other
   pub history : (m : Memory) (cs : List Call) → (ss : List Shown) × (last : Memory) × History m cs ss last

@@ -24,35 +24,38 @@ pub fn add(
     store: &mut Store,
     events: &mut [u8],
     ends: &mut [u32],
+    words: &mut [u32],
     trace: &[u8],
 ) -> Result<(), Refusal>
-    ensures { Called (lent store.old events.old ends.old) (add_of trace.now) (only (done_said result))
-        (lent store.new events.new ends.new) }
+    ensures { Called (lent store.old events.old ends.old words.old) (add_of trace.now) (only (done_said result))
+        (lent store.new events.new ends.new words.new) }
 {
-    eventlog::add(store, events, ends, trace)
+    eventlog::add(store, events, ends, words, trace)
 }
 
 pub fn read(
     store: &mut Store,
     events: &mut [u8],
     ends: &mut [u32],
+    words: &mut [u32],
     log: &[u8],
 ) -> Result<usize, Refusal>
-    ensures { Called (lent store.old events.old ends.old) (read_of log.now) (only (count_said result))
-        (lent store.new events.new ends.new) }
+    ensures { Called (lent store.old events.old ends.old words.old) (read_of log.now) (only (count_said result))
+        (lent store.new events.new ends.new words.new) }
 {
-    columns::read(store, events, ends, log)
+    columns::read(store, events, ends, words, log)
 }
 
 pub fn find(
     store: Store,
     events: &[u8],
     ends: &[u32],
+    words: &[u32],
     settings: Settings,
     list: &mut [u16],
 ) -> Result<Found, Refusal>
-    ensures { Called (lent store events.now ends.now) (find_of settings list.old)
-        (record { said = find_said result; list = list.new }) (lent store events.exit.now ends.exit.now) }
+    ensures { Called (lent store events.now ends.now words.now) (find_of settings list.old)
+        (record { said = find_said result; list = list.new }) (lent store events.exit.now ends.exit.now words.exit.now) }
 {
-    discovery::find(store, events, ends, settings, list)
+    discovery::find(store, events, ends, words, settings, list)
 }

@@ -1,2 +1,2 @@
-pub mod Occurrence
+pub mod Masks
 pub mod Pruning

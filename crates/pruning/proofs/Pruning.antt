@@ -18,8 +18,7 @@ use Rattle.base.proofs.Bools.{Expression, implied, fails_too, either}
 use Rattle.base.proofs.Lists.{count_weaker, all_range}
 use Rattle.declare.specs.declared.constraints.Constraint.{Constraint}
 use Rattle.pruning.specs.declared.Measure.{Measure}
-use Rattle.pruning.specs.declared.Class.{Class}
-use Rattle.pruning.specs.Question.{class_of, counts_when, counts_for, fulfilments, support, Question, always, measure_of, meets, survives_in, survives}
+use Rattle.pruning.specs.Question.{class_of, counts_when, counts_for, fulfilments, support, Question, always, measure_of, meets, survives}
 
 -- where the template is activated and holds, the trace counts for its class
 abbrev counted : ℕ → Expression 3
@@ -66,7 +65,3 @@ fulfilled_survives q c h =
 
 pub pruned_falls_short : (q : Question) (c : Constraint) → survives q c ≡ false → meets (measure_of q) (fulfilments q.traces c) ≡ false
 pruned_falls_short q c = fails_too _ _ (fulfilled_survives q c)
-
--- whether a constraint of its template's class is kept
-pub class_survives : {class : Class} (q : Question) (c : Constraint) → class ≡ class_of c.template → survives_in class q c ≡ survives q c
-class_survives q c h = ap (λ class. survives_in class q c) h

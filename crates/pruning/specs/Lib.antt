@@ -1,2 +1,2 @@
-pub mod Query
+pub mod Masks
 pub mod Question

@@ -1,15 +1,15 @@
-// What a find asks of a store that is known to be sound, and which constraints pruning keeps for it. No replayer can be reached from here.
+// What a find is measured by, and which constraints pruning keeps: by the words of traces alone. No event and no replayer can be reached from
+// here.
 #![tactic(auto)]
 
-ghost use Rattle.std.specs.Prelude.{◌≡◌, ◌≤◌, ◌==◌, ◌&&◌, true, length, filter};
-ghost use Rattle.std.specs.List.{list_any, list_all};
-ghost use Rattle.base.specs.Lists.{non_empty};
-ghost use Rattle.declare.specs.Traces.{most_activities, all_below};
-ghost use Rattle.eventlog.specs.SoundStore.{memory_of, traces_in};
-ghost use Rattle.pruning.specs.Question.{asked, measure_of, threshold_in_range, meets, class_of, counts_for, support as support_of, survives_in};
+ghost use Rattle.std.specs.Prelude.{◌≡◌, ◌%◌};
+ghost use Rattle.base.specs.Lists.{count};
+ghost use Rattle.eventlog.specs.Words.{has as has_bit};
+ghost use Rattle.pruning.specs.Question.{threshold_in_range, meets, class_of};
+ghost use Rattle.pruning.specs.Masks.{just, some_of, traces_by, support_by, companions_by, no_pair, frequent_by, survives_by};
 
-use declare::Constraint;
-use eventlog::{KeptParts, SoundStore};
+use declare::{Constraint, MOST_ACTIVITIES};
+use eventlog::KeptWords;
 
 pub const MOST_THRESHOLD: u32 = 1000;
 
@@ -45,16 +45,6 @@ impl Measure {
     }
 }
 
-// What a find asks of a store that is sound: what it keeps, and the measure, for which R is counted once a find.
-#[derive(Clone, Copy)]
-pub struct Query<'a> {
-    pub kept: KeptParts<'a>,
-    pub measure: Measure,
-    ghost counted: { measure.traces ≡ length (filter non_empty (traces_in kept)) },
-    ghost few_activities: { measure.activities ≤ most_activities },
-    ghost declared: { list_all (all_below measure.activities) (traces_in kept) ≡ true },
-}
-
 // The classes of pruning: by the traces with a, by all of them, by those with a or b, by those with both.
 #[derive(Clone, Copy, Debug, PartialEq, Eq)]
 pub enum Class {
@@ -78,68 +68,102 @@ impl Class {
     }
 }
 
-// Tried with `contains`: on traces of a few events a find then takes more than the plain finder.
-fn has(trace: &[u8], activity: u8) -> bool
-    ensures { result ≡ list_any (λ event. event == activity) trace.now }
+// How many of the words have just these of a mask's bits.
+// Added up, and not filtered and counted: the compiler then takes several words at a time.
+fn masked(words: KeptWords, mask: u32, bits: u32) -> u32
+    ensures { result ≡ count (just mask bits) words.entry.words.now }
 {
-    trace.iter().any(|&event| event == activity)
+    words
+        .words
+        .iter()
+        .map(|&word| u32::from(word & mask == bits))
+        .sum()
 }
 
-// Whether a trace counts for a class of pruning: an empty one for none, in three of the four since no activity occurs in it.
-// A match by class and no closure for each: which one to take would be this same match.
-#[tactic(auto, using(crate::proofs::Occurrence::occurs_any))]
-fn counts_for(class: Class, a: u8, b: u8, trace: &[u8]) -> bool
-    ensures { result ≡ (non_empty trace.now && counts_for class a b trace.now) }
+// How many have one of these bits, at least: all but those with none.
+fn with_some(words: KeptWords, bits: u32) -> u32
+    ensures { result ≡ count (some_of bits) words.entry.words.now }
 {
+    words.words.len() as u32 - masked(words, bits, 0)
+}
+
+// R: how many kept traces are of length 1 or more. An empty one's word has no bit.
+pub fn trace_count(words: KeptWords) -> u32
+    ensures { result ≡ traces_by words.entry.words.now }
+{
+    with_some(words, u32::MAX)
+}
+
+// How many kept traces of length 1 or more count for a class, by two activities: asked for declared ones, whose bits are in every mask.
+fn support(words: KeptWords, class: Class, a: u8, b: u8) -> u32
+    ensures { result ≡ support_by class words.entry.words.now a b }
+{
+    let (a, b) = (eventlog::bit_of(a), eventlog::bit_of(b));
     match class {
-        Class::WithA => has(trace, a),
-        Class::All => !trace.is_empty(),
-        Class::Either => has(trace, a) || has(trace, b),
-        Class::Both => has(trace, a) && has(trace, b),
+        Class::WithA => with_some(words, a),
+        Class::All => trace_count(words),
+        Class::Either => with_some(words, a | b),
+        Class::Both => masked(words, a | b, a | b),
     }
 }
 
-// R: how many kept traces are of length 1 or more.
-#[tactic(auto, using(eventlog::proofs::Counting::few_traces))]
-fn trace_count(kept: KeptParts) -> u32
-    ensures { result ≡ length (filter non_empty (traces_in kept.entry)) }
+// The declared activities with which an activity makes a frequent pair, as a word.
+fn companions(measure: Measure, words: KeptWords, class: Class, a: u8) -> u32
+    ensures { result ≡ companions_by class measure words.entry.words.now a }
 {
-    kept.traces().filter(|trace| !trace.is_empty()).count() as u32
+    (0..measure.activities.min(MOST_ACTIVITIES) as u8)
+        .filter(|&b| measure.meets(support(words, class, a, b)))
+        .fold(0, |word, b| eventlog::with_bit(word, b))
 }
 
-// How many kept traces of length 1 or more count for a class, by a constraint's activities.
-#[tactic(auto, using(eventlog::proofs::Counting::few_traces))]
-fn support(kept: KeptParts, c: Constraint, class: Class) -> u32
-    ensures { result ≡ support_of class (filter non_empty (traces_in kept.entry)) c }
-{
-    kept.traces()
-        .filter(|trace| counts_for(class, c.a, c.b, trace))
-        .count() as u32
+// Which pairs of activities are frequent: their support, by the traces with one of the two and by those with both, meets the threshold. Each
+// activity has its companions.
+// Support is counted for each two activities in either order, and not for each constraint: many templates ask for the same. It is asked for two
+// classes alone: the traces with a are those with one of a and a, and the class of all is kept always.
+#[derive(Drop)]
+pub struct Frequent {
+    either: [u32; 32],
+    both: [u32; 32],
 }
 
-impl<'a> Query<'a> {
-    ghost use Rattle.eventlog.specs.Store.{kept};
-    ghost use Rattle.pruning.specs.Query.{asked_by};
-
-    pub fn new(sound: SoundStore<'a>, settings: Settings) -> Query<'a>
-        ensures kept { traces_in result.kept ≡ kept (memory_of sound.entry) }
-        ensures measure { result.measure ≡ measure_of (asked (memory_of sound.entry) settings) }
+impl Frequent {
+    // No pair so far.
+    pub fn none() -> Frequent
+        ensures { result ≡ no_pair }
     {
-        let kept = sound.kept();
-        Query {
-            kept,
-            measure: Measure {
-                activities: sound.store.activities,
-                settings,
-                traces: trace_count(kept),
-            },
+        Frequent {
+            either: [0; 32],
+            both: [0; 32],
         }
     }
 
-    // Whether pruning keeps a constraint whose template is of this class. Nothing is counted for a class that it keeps always.
-    pub fn survives(self, c: Constraint, class: Class) -> bool
-        ensures { result ≡ survives_in class (asked_by self.entry) c }
+    // Counts them. In place: what is handed back would be copied by memcpy, which the archive for C would then need.
+    pub fn count(&mut self, measure: Measure, words: KeptWords)
+        ensures { self.new ≡ frequent_by measure words.entry.words.now self.old }
     {
-        class == Class::All || self.measure.meets(support(self.kept, c, class))
+        for a in 0..measure.activities.min(MOST_ACTIVITIES) as u8 {
+            self.either[usize::from(a)] = companions(measure, words, Class::Either, a);
+            self.both[usize::from(a)] = companions(measure, words, Class::Both, a);
+        }
     }
+
+    // Whether pruning keeps a constraint whose template is of this class. In the class of the traces with a, b is a, so these are the traces with
+    // a or b. Activities are taken by their remainder by 32.
+    pub fn survives(&self, c: Constraint, class: Class) -> bool
+        ensures { result ≡ survives_by self.now class c }
+    {
+        let pairs = if class == Class::Both {
+            &self.both
+        } else {
+            &self.either
+        };
+        class == Class::All || has(pairs[usize::from(c.a % 32)], c.b)
+    }
+}
+
+// Whether a word has an activity's bit.
+fn has(word: u32, activity: u8) -> bool
+    ensures { result ≡ has_bit (activity % 32) word }
+{
+    (word >> (activity % 32)) % 2 == 1
 }

@@ -1,18 +1,20 @@
-// Replay of a constraint over the store's traces. Pruning and discovery rest on no crate with a replayer: they come to one through `replay`
-// alone, which requires that the query it is handed keeps the constraint. An automaton is handed out sealed.
+// Replay of a constraint over the store's traces. Pruning comes to no replayer, and discovery to one through `replay` alone, which requires that
+// the query it is handed keeps the constraint. An automaton is handed out sealed.
 #![tactic(auto)]
+
+mod query;
 
 ghost use Rattle.std.specs.Prelude.{◌≡◌, true};
 ghost use Rattle.std.specs.List.{filter};
 ghost use Rattle.base.specs.Lists.{non_empty, count};
 ghost use Rattle.eventlog.specs.SoundStore.{traces_in};
-ghost use Rattle.pruning.specs.Query.{asked_by};
+ghost use Rattle.replay.specs.Query.{asked_by};
 ghost use Rattle.replay.specs.Replays.{sealed, Replayable, Replays, replays_fulfilled};
 
 use automata::{Automaton, Moves};
 use declare::{Constraint, Verdict};
 use eventlog::KeptParts;
-use pruning::Query;
+pub use query::Query;
 
 // A template's automaton, with which nothing can be done but to hand it to `replay`.
 #[derive(Clone, Copy, Debug, PartialEq, Eq)]

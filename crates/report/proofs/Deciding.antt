@@ -49,6 +49,7 @@ check_passes passes d =
       finds = record { says = rw passes d.finds.says; leaves = rw passes d.finds.leaves };
       events = rw passes d.events;
       ends = rw passes d.ends;
+      words = rw passes d.words;
       fits = d.fits;
     }
 

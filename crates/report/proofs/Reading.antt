@@ -33,10 +33,11 @@ use Rattle.report.specs.declared.Arrays.{Arrays}
 use Rattle.report.specs.Report.{lent_space, lent_constraints, lent_list, log_question, then_find, room_lent, empty_store}
 use Rattle.report.specs.Stages.{number_listed, Decides}
 
--- the two buffers are as long as those that the program lends
+-- the buffers are as long as those that the program lends
 pub record Buffers (arrays : Arrays) : Type 0 where
   pub events : length arrays.events ≡ lent_space.events
   pub ends : length arrays.ends ≡ lent_space.ends
+  pub words : length arrays.words ≡ lent_space.words
 
 length_lent : length lent_list ≡ numbers * lent_constraints
 unfolding lent_list
@@ -53,6 +54,7 @@ refusal_decides {checks} {n} {settings} {log} {refusal = refusal} e =
       finds = outcome_refused (sym (refused_same (then_find checks q) [] (find_values q) _ _ all)) refl;
       events = rw (refused_old checks [] _ _ e);
       ends = rw (refused_old checks [] _ _ e);
+      words = rw (refused_old checks [] _ _ e);
       fits = omega arith;
     }
 
@@ -115,10 +117,10 @@ module _ (n : ℕ) (settings : Settings) (log : List ℕ) (declared : declarable
 
   room_is_lent : room fresh ≡ room_lent n
   unfolding last_end
-  room_is_lent = rw (buffers.events, buffers.ends)
+  room_is_lent = rw (buffers.events, buffers.ends, buffers.words)
 
   is_sound : sound fresh ≡ true
-  is_sound = fresh_sound n arrays.events arrays.ends declared
+  is_sound = fresh_sound n arrays.events arrays.ends arrays.words declared
 
   -- the checks of a read that is lent all this are the log's
   read_outcome :
@@ -130,7 +132,7 @@ module _ (n : ℕ) (settings : Settings) (log : List ℕ) (declared : declarable
       let g = grown_read fresh log is_sound (rw room_is_lent passed) in
       record {
         is_sound = g.still_sound;
-        asks = rw (ap (λ (r : Room). r.activities) g.room_left, g.keeps, fresh_kept n arrays.events arrays.ends);
+        asks = rw (ap (λ (r : Room). r.activities) g.room_left, g.keeps, fresh_kept n arrays.events arrays.ends arrays.words);
       }
 
   module _ (after : Memory) where
@@ -138,7 +140,7 @@ module _ (n : ℕ) (settings : Settings) (log : List ℕ) (declared : declarable
     pub added_decides :
         (added : ℕ) (answer : Result Found Refusal) (list' : List ℕ) → length arrays.list ≡ numbers * lent_constraints →
         Reads fresh log (gives (added ∷ [])) after → Finds after settings arrays.list (find_said answer) list' →
-        Decides checks n settings log arrays answer (record { events = after.events; ends = after.ends; list = list' })
+        Decides checks n settings log arrays answer (record { events = after.events; ends = after.ends; words = after.words; list = list' })
     added_decides added answer list' room reads finds =
         let o = read_outcome reads in
         let none = accepted_passes o refl in
@@ -147,13 +149,14 @@ module _ (n : ℕ) (settings : Settings) (log : List ℕ) (declared : declarable
           finds = found_outcome q after f checks none arrays.list room finds;
           events = ap (λ (m : Memory). m.events) o.leaves;
           ends = ap (λ (m : Memory). m.ends) o.leaves;
+          words = ap (λ (m : Memory). m.words) o.leaves;
           fits = found_fits after settings arrays.list answer list' finds;
         }
 
     -- a refused read
     pub not_added_decides :
         (refusal : Refusal) → Reads fresh log (refusal_said refusal) after →
-        Decides checks n settings log arrays (Err refusal) (record { events = after.events; ends = after.ends; list = arrays.list })
+        Decides checks n settings log arrays (Err refusal) (record { events = after.events; ends = after.ends; words = after.words; list = arrays.list })
     not_added_decides refusal reads =
         let o = read_outcome reads in
         rw (refused_keeps o refl) (refusal_decides (refused_same checks (length (spelled log) ∷ []) [] _ _ (sym o.says)))

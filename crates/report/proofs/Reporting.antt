@@ -84,7 +84,7 @@ printed_reports {input} {arrays} {arrays'} {answer} {out} d puts =
     record {
       counts = p.follows ∙ zero-add (length (output_of input));
       prints = p.stores ∙ sets-eq (output_of input) out 0 p.within ∙ rw zero-add;
-      leaves = λ i. record { events = d.events i; ends = d.ends i; list = d.finds.leaves i };
+      leaves = λ i. record { events = d.events i; ends = d.ends i; words = d.words i; list = d.finds.leaves i };
     }
 
 -- what is written lies within the lent array

@@ -113,11 +113,22 @@ whole_refusal input number detail =
 
 -- some arrays that are lent
 unfoldable some_arrays : Arrays
-some_arrays = record { events = replicate lent_space.events 0; ends = replicate lent_space.ends 0; list = [] }
+some_arrays =
+    record {
+      events = replicate lent_space.events 0;
+      ends = replicate lent_space.ends 0;
+      words = replicate lent_space.words 0;
+      list = [];
+    }
 
 buffers : Buffers some_arrays
 unfolding some_arrays
-buffers = record { events = length-replicate {A = ℕ} lent_space.events 0; ends = length-replicate {A = ℕ} lent_space.ends 0 }
+buffers =
+    record {
+      events = length-replicate {A = ℕ} lent_space.events 0;
+      ends = length-replicate {A = ℕ} lent_space.ends 0;
+      words = length-replicate {A = ℕ} lent_space.words 0;
+    }
 
 module _ (n : ℕ) (settings : Settings) (log : List ℕ) (declared : declarable n ≡ true) (none : NoneFail (log_checks (room_lent n) log)) where
   abbrev q : Question

@@ -3,12 +3,14 @@
 use Rattle.std.specs.Prelude.{ℕ, ◌≡◌, refl, List, [], ◌∷◌, length}
 use Rattle.declare.specs.Meaning.{meanings, holds, activated, fulfilled}
 use Rattle.fields.specs.Field.{spell}
+use Rattle.eventlog.specs.Store.{last_end}
+use Rattle.eventlog.specs.Words.{word_of}
 use Rattle.columns.specs.Log.{lines, log_checks, spelled}
 use Rattle.declare.specs.Constraints.{constraints}
 use Rattle.pruning.specs.Question.{fulfilments, support}
 use Rattle.discovery.specs.Listing.{listed, replayed}
 use Rattle.report.specs.Print.{refusal_line, first_line, constraint_line, found_text}
-use Rattle.report.specs.Report.{most_input, lent_space, lent_constraints, settings_laid_out, activities_set, settings_set, lent_list, checks_to_read, checks_of_report, output_of}
+use Rattle.report.specs.Report.{most_input, lent_space, lent_constraints, settings_laid_out, activities_set, settings_set, lent_list, left_by, checks_to_read, checks_of_report, output_of}
 
 pub sample : List ℕ
 sample =
@@ -56,12 +58,21 @@ unfolding
     fulfilled activated holds meanings
 refusals_print = (refl, refl, refl, refl, refl)
 
+-- a log of one line leaves its event, end and word in front, and all behind them as it was
+buffers_left :
+    (let left = left_by [] 2 (record { threshold = 0 }) (32 ∷ 32 ∷ 32 ∷ 32 ∷ 32 ∷ 49 ∷ 32 ∷ 32 ∷ 49 ∷ 10 ∷ [])
+    (record { events = 9 ∷ 9 ∷ []; ends = 8 ∷ 8 ∷ []; words = 7 ∷ 7 ∷ []; list = 6 ∷ [] }) in
+    (left.events ≡ 1 ∷ 9 ∷ []) × (left.ends ≡ 1 ∷ 8 ∷ []) × (left.words ≡ 2 ∷ 7 ∷ []) × (left.list ≡ 6 ∷ []))
+unfolding lent_list lines spelled last_end word_of
+buffers_left = (refl, refl, refl, refl)
+
 -- the longest input, and what is lent
 sizes :
     (most_input ≡ 65536)
     × (lent_space.events ≡ 6552)
     × (lent_space.ends ≡ 4095)
+    × (lent_space.words ≡ 4095)
     × (lent_constraints ≡ 8000)
     × (length lent_list ≡ 32000)
 unfolding lent_list
-sizes = (refl, refl, refl, refl, refl)
+sizes = (refl, refl, refl, refl, refl, refl)

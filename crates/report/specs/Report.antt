@@ -19,9 +19,9 @@ use Rattle.report.specs.Print.{refusal_line, found_text}
 abbrev pub most_input : ℕ
 most_input = 65536
 
--- what the program lends: 6552 events, 4095 ends and 8000 constraints
+-- what the program lends: 6552 events, 4095 ends, as many words and 8000 constraints
 abbrev pub lent_space : Space
-lent_space = record { events = 6552; ends = 4095 }
+lent_space = record { events = 6552; ends = 4095; words = 4095 }
 
 abbrev pub lent_constraints : ℕ
 lent_constraints = 8000
@@ -92,7 +92,7 @@ output_of input = printed (reply (checks_of_report input) []) (found_text (quest
 
 -- the lent buffers as an empty store
 abbrev pub empty_store : ℕ → Arrays → Memory
-empty_store n arrays = memory (empty n) arrays.events arrays.ends
+empty_store n arrays = memory (empty n) arrays.events arrays.ends arrays.words
 
 -- the memory with the log's traces, where these checks pass
 abbrev pub filled_by : List Check → ℕ → List ℕ → Arrays → Memory
@@ -107,6 +107,7 @@ left_by checks n settings log arrays =
     record {
       events = (filled_by checks n log arrays).events;
       ends = (filled_by checks n log arrays).ends;
+      words = (filled_by checks n log arrays).words;
       list = when_passed (then_find checks q) (with_list q arrays.list) arrays.list;
     }
 

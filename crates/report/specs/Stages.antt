@@ -33,6 +33,7 @@ pub record Decides (checks : List Check) (n : ℕ) (settings : Settings) (log : 
       Outcome (then_find checks q) (find_values q) (with_list q arrays.list) arrays.list (find_said answer) arrays'.list
   pub events : arrays'.events ≡ (filled_by checks n log arrays).events
   pub ends : arrays'.ends ≡ (filled_by checks n log arrays).ends
+  pub words : arrays'.words ≡ (filled_by checks n log arrays).words
   pub fits : numbers * number_listed answer ≤ length arrays'.list
 
 -- the answer to an input

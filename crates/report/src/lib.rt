@@ -23,6 +23,9 @@ pub const LENT_EVENTS: usize = 6552;
 
 pub const LENT_ENDS: usize = 4095;
 
+// As many as ends.
+pub const LENT_WORDS: usize = LENT_ENDS;
+
 pub const LENT_CONSTRAINTS: usize = 8000;
 
 pub const LIST: usize = discovery::NUMBERS * LENT_CONSTRAINTS;
@@ -30,11 +33,12 @@ pub const LIST: usize = discovery::NUMBERS * LENT_CONSTRAINTS;
 // The first line, and a line for each constraint.
 pub const OUT: usize = FIRST_LINE + CONSTRAINT_LINE * LENT_CONSTRAINTS;
 
-// What findrules lends beside the output: the two buffers of a store, and the slice for the list.
+// What findrules lends beside the output: the three buffers of a store, and the slice for the list.
 #[derive(Drop)]
 pub struct Arrays {
     pub events: [u8; LENT_EVENTS],
     pub ends: [u32; LENT_ENDS],
+    pub words: [u32; LENT_WORDS],
     pub list: [u16; LIST],
 }
 
@@ -70,9 +74,14 @@ fn read_and_find(
     ensures { Decides (log_checks (room_lent store.activities) log.now)
         store.activities settings log.now arrays.old result arrays.new }
 {
-    let Arrays { events, ends, list } = arrays;
-    columns::read(&mut store, events, ends, log)?;
-    discovery::find(store, events, ends, settings, list)
+    let Arrays {
+        events,
+        ends,
+        words,
+        list,
+    } = arrays;
+    columns::read(&mut store, events, ends, words, log)?;
+    discovery::find(store, events, ends, words, settings, list)
 }
 
 // The answer to an input. Where it lists constraints, the list holds them.

@@ -9,9 +9,10 @@
 use budgieleaf_tests::calls::{Calls, FindAnswer};
 use budgieleaf_tests::capi::{watch_start, watch_step, Archive, Bytes};
 use budgieleaf_tests::lent::{Memory, Record, MOST_WATCHED};
+use budgieleaf_tests::memories::right_words;
 use budgieleaf_tests::oracle::finder::{constraints, room_for_all, Constraint, NUMBERS};
 use budgieleaf_tests::oracle::watcher::numbers;
-use budgieleaf_tests::plain::{by_bytes, by_library, find, Automaton};
+use budgieleaf_tests::plain::{by_library, by_words, Automaton};
 use budgieleaf_tests::plain_watcher::{step_lent, Table, Watcher};
 use budgieleaf_tests::rng::Rng;
 use std::hint::black_box;
@@ -60,7 +61,8 @@ fn log_of(name: &'static str, activities: u32, occurring: u32, traces: usize, le
         events.extend((0..length).map(|i| ((i + phase + rng.below(3)) % n) as u8));
         ends.push(events.len() as u32);
     }
-    let memory = Memory::of(Record { activities, traces: traces as u32 }, events, ends);
+    let words = right_words(&events, &ends);
+    let memory = Memory::of(Record { activities, traces: traces as u32 }, events, ends, words);
     Log { name, memory, threshold, roomy: true }
 }
 
@@ -102,8 +104,8 @@ fn bench_find(which: usize, automaton: &Automaton, log: &Log, list: &mut [u16]) 
     let Log { memory, threshold, .. } = black_box(log);
     match which {
         0 => Archive.find(memory, *threshold, list).ok(),
-        1 => find(automaton, by_bytes, memory, *threshold, list).ok(),
-        _ => find(automaton, by_library, memory, *threshold, list).ok(),
+        1 => by_words(automaton, memory, *threshold, list).ok(),
+        _ => by_library(automaton, memory, *threshold, list).ok(),
     }
 }
 

@@ -4,7 +4,7 @@ use super::columns::{field, justified, line, Line};
 use super::finder::{constraints, find, meets, room_for_all, Found, NUMBERS};
 use super::findrules::output;
 use super::ledger::{opens, refusal, Ledger};
-use super::memory::{is_sound, Model};
+use super::memory::{is_sound, word, Model};
 use super::templates::{verdict, Verdict, Verdict::*};
 use crate::calls::Calls;
 use crate::lent::{Memory, Record};
@@ -54,7 +54,7 @@ fn starred_row_of_the_threshold() {
 
 #[test]
 fn starred_row_of_one_empty_trace() {
-    let mut ledger = Ledger::fresh(1, 5, 5);
+    let mut ledger = Ledger::fresh(1, 5, 5, 5);
     assert_eq!(ledger.add(&[]), Ok(()));
     assert_eq!(ledger.find(1000, room_for_all(1)), Err(refusal(11, 0)));
     assert_eq!(ledger.traces, [vec![]]);
@@ -89,7 +89,7 @@ fn n_of_32_is_taken_and_33_refused() {
 
 #[test]
 fn a_trace_of_4096_is_taken_and_4097_refused() {
-    let mut ledger = Ledger::fresh(1, 20000, 10);
+    let mut ledger = Ledger::fresh(1, 20000, 10, 10);
     assert_eq!(ledger.add(&[0; 4096]), Ok(()));
     assert_eq!(ledger.add(&[0; 4097]), Err(refusal(7, 0)));
     let lines = |n| b"     1  0\n".repeat(n);
@@ -100,7 +100,7 @@ fn a_trace_of_4096_is_taken_and_4097_refused() {
 
 #[test]
 fn an_undeclared_step_is_told_by_its_lowest_place() {
-    let mut ledger = Ledger::fresh(2, 20, 10);
+    let mut ledger = Ledger::fresh(2, 20, 10, 10);
     assert_eq!(ledger.add(&[2, 0, 2]), Err(refusal(6, 1)));
     assert_eq!(ledger.add(&[0, 2, 1, 3]), Err(refusal(6, 2)));
     assert_eq!(ledger.add(&[0, 1, 255]), Err(refusal(6, 3)));
@@ -179,7 +179,7 @@ fn refusals_of_the_program_in_their_order() {
 
 #[test]
 fn a_refused_read_changes_nothing() {
-    let mut ledger = Ledger::fresh(2, 3, 5);
+    let mut ledger = Ledger::fresh(2, 3, 5, 5);
     let before = ledger.clone();
     assert_eq!(ledger.read(b"     1  0\n     2  1\n     2  1\n     2  1\n"), Err(refusal(9, 4)));
     assert_eq!(ledger, before);
@@ -190,8 +190,34 @@ fn a_refused_read_changes_nothing() {
 }
 
 #[test]
+fn eight_comes_at_the_shortest() {
+    for (ends_room, words_room) in [(1, 1), (1, 2), (2, 1)] {
+        let mut ledger = Ledger::fresh(2, 20, ends_room, words_room);
+        assert_eq!(ledger.read(b"     1  0\n     2  1\n"), Err(refusal(8, 2)));
+        assert_eq!(ledger.add(&[]), Ok(()));
+        assert_eq!(ledger.add(&[]), Err(refusal(8, 0)));
+        assert_eq!(ledger.read(b"     1  0\n"), Err(refusal(8, 1)));
+    }
+    assert_eq!(Ledger::fresh(2, 20, 1, 0).add(&[1]), Err(refusal(8, 0)));
+}
+
+#[test]
+fn words_of_traces() {
+    assert_eq!([word(&[]), word(&[0]), word(&[3, 1, 3]), word(&[31, 0, 32, 255])], [0, 1, 0b1010, 1 << 31 | 1]);
+    let record = Record { activities: 32, traces: 3 };
+    let sound = |words: &[u32]| is_sound(&Memory::of(record, vec![0, 2, 2, 31], vec![3, 3, 4], words.to_vec()));
+    assert!(sound(&[0b101, 0, 1 << 31]) && sound(&[0b101, 0, 1 << 31, 77]));
+    assert!(!sound(&[]) && !sound(&[0b101, 0]));
+    assert!(!sound(&[0b111, 0, 1 << 31]) && !sound(&[0b100, 0, 1 << 31]) && !sound(&[0b101, 1 << 31, 1 << 31]));
+    assert!(!sound(&[0b101, 0, 0]) && !sound(&[0b101, 0b101, 1 << 31]));
+}
+
+#[test]
 fn soundness_at_its_edges() {
-    let sound = |activities, traces, ends: &[u32]| is_sound(&Memory::of(Record { activities, traces }, vec![1; 5000], ends.to_vec()));
+    let sound = |activities, traces, ends: &[u32]| {
+        let words = (0..ends.len()).map(|k| if k > 0 && ends[k] <= ends[k - 1] || ends[k] == 0 { 0 } else { 0b10 }).collect();
+        is_sound(&Memory::of(Record { activities, traces }, vec![1; 5000], ends.to_vec(), words))
+    };
     assert!(sound(32, 0, &[]) && sound(2, 1, &[4096]) && sound(2, 2, &[4096, 5000]) && sound(2, 1, &[0, 9999]));
     assert!(!sound(0, 0, &[]) && !sound(33, 0, &[]) && !sound(2, 1, &[]) && !sound(2, 1, &[4097]));
     assert!(!sound(2, 2, &[4096, 4095]) && !sound(2, 2, &[4096, 5001]) && !sound(1, 1, &[1]));
@@ -200,10 +226,10 @@ fn soundness_at_its_edges() {
 
 #[test]
 fn the_model_writes_only_what_is_kept() {
-    let mut memory = Memory::of(Model.open(3).unwrap(), vec![9; 6], vec![7; 3]);
+    let mut memory = Memory::of(Model.open(3).unwrap(), vec![9; 6], vec![7; 3], vec![8; 4]);
     assert_eq!(Model.add(&mut memory, &[2, 0]), Ok(()));
     assert_eq!(Model.read(&mut memory, b"     5  1\n"), Ok(1));
-    let after = Memory::of(Record { activities: 3, traces: 2 }, vec![2, 0, 1, 9, 9, 9], vec![2, 3, 7]);
+    let after = Memory::of(Record { activities: 3, traces: 2 }, vec![2, 0, 1, 9, 9, 9], vec![2, 3, 7], vec![0b101, 0b10, 8, 8]);
     assert_eq!(memory, after);
     assert_eq!(Model.add(&mut memory, &[0, 3, 4]), Err(refusal(6, 2)));
     assert_eq!(memory, after);

@@ -7,6 +7,7 @@ use super::ledger::{opens, refusal, Ledger, Refusal};
 pub const MOST_INPUT: usize = 65536;
 pub const EVENTS: usize = 6552;
 pub const ENDS: usize = 4095;
+pub const WORDS: usize = ENDS;
 pub const RULES: usize = 8000;
 
 /// N and threshold, well formed but not yet looked at.
@@ -26,7 +27,7 @@ pub fn answer(input: &[u8]) -> Result<Found, Refusal> {
     if !(1..=1000).contains(&threshold) {
         return Err(refusal(3, 0));
     }
-    let mut ledger = Ledger::fresh(n, EVENTS, ENDS);
+    let mut ledger = Ledger::fresh(n, EVENTS, ENDS, WORDS);
     ledger.read(&input[8..])?;
     ledger.find(threshold, NUMBERS * RULES)
 }

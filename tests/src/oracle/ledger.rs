@@ -24,6 +24,7 @@ pub struct Ledger {
     pub traces: Vec<Vec<u8>>,
     pub events_room: usize,
     pub ends_room: usize,
+    pub words_room: usize,
 }
 
 pub fn opens(n: u32) -> Result<(), Refusal> {
@@ -35,9 +36,9 @@ pub fn opens(n: u32) -> Result<(), Refusal> {
 }
 
 impl Ledger {
-    pub fn fresh(n: u32, events_room: usize, ends_room: usize) -> Ledger {
+    pub fn fresh(n: u32, events_room: usize, ends_room: usize, words_room: usize) -> Ledger {
         assert_eq!(opens(n), Ok(()));
-        Ledger { n, traces: Vec::new(), events_room, ends_room }
+        Ledger { n, traces: Vec::new(), events_room, ends_room, words_room }
     }
 
     pub fn last_end(&self) -> usize {
@@ -45,7 +46,7 @@ impl Ledger {
     }
 
     fn no_more_traces(&self) -> bool {
-        self.traces.len() == MOST_TRACES || self.traces.len() == self.ends_room
+        [MOST_TRACES, self.ends_room, self.words_room].contains(&self.traces.len())
     }
 
     pub fn open(&mut self, n: u32) -> Result<(), Refusal> {

@@ -3,26 +3,37 @@
 
 use super::finder::{Found, NUMBERS};
 use super::ledger::{opens, refusal, Ledger, Refusal, LONGEST_TRACE, MOST_TRACES};
+use super::templates::occurs;
 use crate::calls::{Calls, FindAnswer};
 use crate::lent::{Memory, Record};
 
+/// The number with bit s set for each activity s, 0 to 31, that occurs in the trace.
+pub fn word(trace: &[u8]) -> u32 {
+    (0..32).filter(|&s| occurs(trace, s)).map(|s| 1 << s).sum()
+}
+
+fn is_word(number: u32, trace: &[u8]) -> bool {
+    (0..32).all(|s| (number >> s & 1 == 1) == occurs(trace, s))
+}
+
 pub fn is_sound(memory: &Memory) -> bool {
-    let (events, ends) = (memory.events.get(), memory.ends.get());
+    let (events, ends, words) = (memory.events.get(), memory.ends.get(), memory.words.get());
     let (n, count) = (memory.record.activities as usize, memory.record.traces as usize);
-    if !(1..=32).contains(&n) || count > MOST_TRACES || count > ends.len() {
+    if !(1..=32).contains(&n) || count > MOST_TRACES || count > ends.len() || count > words.len() {
         return false;
     }
     let kept = &ends[..count];
     let before = |k: usize| if k == 0 { 0 } else { kept[k - 1] as u64 };
     let rising = (0..count).all(|k| before(k) <= kept[k] as u64 && kept[k] as u64 <= before(k) + LONGEST_TRACE as u64);
     let last = before(count);
-    rising && last <= events.len() as u64 && events[..last as usize].iter().all(|&x| (x as usize) < n)
+    let declared = rising && last <= events.len() as u64 && events[..last as usize].iter().all(|&x| (x as usize) < n);
+    declared && (0..count).all(|k| is_word(words[k], &events[before(k) as usize..kept[k] as usize]))
 }
 
 /// The ledger of a sound memory's kept traces.
 pub fn kept(memory: &Memory) -> Ledger {
     let (events, ends) = (memory.events.get(), memory.ends.get());
-    let mut ledger = Ledger::fresh(memory.record.activities, events.len(), ends.len());
+    let mut ledger = Ledger::fresh(memory.record.activities, events.len(), ends.len(), memory.words.get().len());
     let mut start = 0;
     for &end in &ends[..memory.record.traces as usize] {
         ledger.traces.push(events[start..end as usize].to_vec());
@@ -34,12 +45,13 @@ pub fn kept(memory: &Memory) -> Ledger {
 /// Writes those of a ledger's traces that a memory does not keep yet.
 fn write(ledger: &Ledger, memory: &mut Memory) {
     let first = memory.record.traces as usize;
-    let (events, ends) = (memory.events.get_mut(), memory.ends.get_mut());
+    let (events, ends, words) = (memory.events.get_mut(), memory.ends.get_mut(), memory.words.get_mut());
     let mut at: usize = ledger.traces[..first].iter().map(Vec::len).sum();
     for (k, trace) in ledger.traces.iter().enumerate().skip(first) {
         events[at..at + trace.len()].copy_from_slice(trace);
         at += trace.len();
         ends[k] = at as u32;
+        words[k] = word(trace);
     }
     memory.record.traces = ledger.traces.len() as u32;
 }

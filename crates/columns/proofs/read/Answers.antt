@@ -30,4 +30,5 @@ returns c =
     let b = begun c.in_ok-sound_store.sound_store (rw c.in_ok-sound_store.ensures.ok_part at c.new.ensures) start.room start.at in
     let log = c.args.log.now in
     outcome_accepted (says b log c.in_ok-added.ensures) refl
-    (appended b log c.in_ok-added.added c.in_ok-added.ensures c.write_lines.new.events c.write_lines.new.ends c.write_lines.ensures)
+    (appended b log c.in_ok-added.added c.in_ok-added.ensures c.write_lines.new.events c.write_lines.new.ends c.write_lines.new.words
+    c.write_lines.ensures)

@@ -30,7 +30,7 @@ loop-line-preserved-in-Some-read_line c =
       writes =
           rw (wrote.room, wrote.at, wrote.written)
           (sym (written_on at.reading.room at.reading.at place cut at.invariant.accepted.1 c.in-Some-read_line.ensures
-          (memory_in at.reading.room at.events at.ends)) ∙ at.invariant.writes);
+          (memory_in at.reading.room at.events at.ends at.words)) ∙ at.invariant.writes);
     }
 
 pub loop-line-preserved : goal.loop-line-preserved
@@ -43,5 +43,5 @@ pub returns : goal.returns
 returns c =
     let at = c.loop-line in
     let none = no_chunk at.line-iterator c.next.new.self c.in-None.ensures.steps in
-    ap (λ (r : Room). memory_in r at.events at.ends) (sym at.invariant.same_room)
-    ∙ sym (ap (lines_written at.reading.at (memory_in at.reading.room at.events at.ends)) none) ∙ at.invariant.writes
+    ap (λ (r : Room). memory_in r at.events at.ends at.words) (sym at.invariant.same_room)
+    ∙ sym (ap (lines_written at.reading.at (memory_in at.reading.room at.events at.ends at.words)) none) ∙ at.invariant.writes

@@ -8,10 +8,10 @@ use Rattle.columns.proofs.write_lines.Given as goal
 abbrev pub invariant-loop-line : goal.invariant-loop-line
 invariant-loop-line l =
     let rest = lines (chunks_rest l.line-iterator) in
-    let start = memory_in l.fn.reading.room l.fn.events l.fn.ends in
+    let start = memory_in l.fn.reading.room l.fn.events l.fn.ends l.fn.words in
     record {
       ten : chunks_size l.line-iterator ≡ 10;
       same_room : l.reading.room ≡ l.fn.reading.room;
       accepted : (place : ℕ) × IsOk (survey_of l.reading.room l.reading.at place rest);
-      writes : lines_written l.reading.at (memory_in l.reading.room l.events l.ends) rest ≡ lines_written l.fn.reading.at start (lines l.log);
+      writes : lines_written l.reading.at (memory_in l.reading.room l.events l.ends l.words) rest ≡ lines_written l.fn.reading.at start (lines l.log);
     }

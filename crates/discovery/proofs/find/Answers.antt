@@ -12,7 +12,7 @@ use Rattle.discovery.proofs.find.Goals as goal
 
 pub returns : goal.returns
 returns c =
-    let m = lent c.args.store c.args.events.now c.args.ends.now in
+    let m = lent c.args.store c.args.events.now c.args.ends.now c.args.words.now in
     let list = c.args.list.now in
     let memory : memory_of c.in_ok-sound.sound ≡ m = search rules in
     let made = c.new-query.ensures in

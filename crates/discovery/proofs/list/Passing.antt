@@ -19,8 +19,8 @@ use Rattle.declare.proofs.constraints.Members.{constraints_number, constraints_o
 use Rattle.eventlog.specs.Store.{most_traces}
 use Rattle.eventlog.specs.SoundStore.{traces_in}
 use Rattle.eventlog.proofs.Counting.{few_traces}
-use Rattle.pruning.specs.declared.Query.{Query}
-use Rattle.pruning.specs.Query.{asked_by}
+use Rattle.replay.specs.declared.query.Query.{Query}
+use Rattle.replay.specs.Query.{asked_by}
 use Rattle.discovery.specs.declared.list.Tally.{Tally}
 use Rattle.pruning.specs.declared.Measure.{Measure}
 use Rattle.pruning.specs.Question.{Question, measure_of, fulfilments, survives}
@@ -31,10 +31,6 @@ use Rattle.replay.specs.Replays.{Replays}
 use Rattle.discovery.specs.Passes.{Passes, Considers, TallyFits, none_yet}
 use Rattle.pruning.proofs.Pruning.{pruned_falls_short}
 use Rattle.discovery.proofs.Listing.{rows_length}
-
--- a query's measure is that of its question
-pub measured : (query : Query) → query.measure ≡ measure_of (asked_by query)
-measured query = ap (λ (n : ℕ). record { activities = query.measure.activities; settings = query.measure.settings; traces = n }) query.counted
 
 -- the fulfilled traces are few
 pub fulfilments_few : (query : Query) (c : Constraint) → fulfilments (asked_by query).traces c ≤ most_traces

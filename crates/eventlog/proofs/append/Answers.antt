@@ -5,18 +5,30 @@ use Rattle.eventlog.proofs.Adding.{bounds}
 use Rattle.eventlog.proofs.append.Goals as goal
 
 pub copy_in-requires : goal.copy_in-requires
-copy_in-requires c = (bounds (lent c.args.store.now c.args.events.now c.args.ends.now) c.args.trace.now c.requires.accepted c.requires.place).fits
+copy_in-requires c =
+    let m = lent c.args.store.now c.args.events.now c.args.ends.now c.args.words.now in
+    (bounds m c.args.trace.now c.requires.accepted c.requires.place).fits
 
 pub overflow_cast-ends : goal.overflow_cast-ends
 overflow_cast-ends c =
-    record { fits = (bounds (lent c.args.store.now c.args.events.now c.args.ends.now) c.args.trace.now c.requires.accepted c.requires.place).small }
+    let m = lent c.args.store.now c.args.events.now c.args.ends.now c.args.words.now in
+    record { fits = (bounds m c.args.trace.now c.requires.accepted c.requires.place).small }
 
 pub bounds-ends-store : goal.bounds-ends-store
-bounds-ends-store c = (bounds (lent c.args.store.now c.args.events.now c.args.ends.now) c.args.trace.now c.requires.accepted c.requires.place).has_end
+bounds-ends-store c =
+    let m = lent c.args.store.now c.args.events.now c.args.ends.now c.args.words.now in
+    (bounds m c.args.trace.now c.requires.accepted c.requires.place).has_end
+
+pub bounds-words-store : goal.bounds-words-store
+bounds-words-store c =
+    let m = lent c.args.store.now c.args.events.now c.args.ends.now c.args.words.now in
+    (bounds m c.args.trace.now c.requires.accepted c.requires.place).has_word
 
 pub overflow_add-store : goal.overflow_add-store
 overflow_add-store c =
-    let few = (bounds (lent c.args.store.now c.args.events.now c.args.ends.now) c.args.trace.now c.requires.accepted c.requires.place).few in omega arith
+    let m = lent c.args.store.now c.args.events.now c.args.ends.now c.args.words.now in
+    let few = (bounds m c.args.trace.now c.requires.accepted c.requires.place).few in
+    omega arith
 
 pub returns : goal.returns
-returns c = simp (c.copy_in.ensures, c.requires.place)
+returns c = simp (c.copy_in.ensures, c.requires.place, c.word_of.ensures)

@@ -51,7 +51,7 @@ returns-then-trace-clause-says c =
 pub returns-then-is_full-clause-says : goal.returns-then-is_full-clause-says
 returns-then-is_full-clause-says c =
     let there = rw c.in_ok-sound.ensures.ok_part at c.new.ensures in
-    let m = lent c.args.store c.args.events.now c.args.ends.now in
+    let m = lent c.args.store c.args.events.now c.args.ends.now c.args.words.now in
     let s : Short m c.args.trace.now = short_by (lent_sound c.in_ok-sound.sound there) c.first_undeclared.ensures c.in_default.is c.if-trace.false in
     let full : full (room m) ≡ true = sym (ap full (c.room-room.ensures ∙ ap room there)) ∙ sym c.is_full.ensures ∙ c.if-is_full.true in
     ap refusal_said c.into-then-is_full.ensures ∙ sym (past_three m c.args.trace.now s ∙ rw full)
@@ -65,7 +65,7 @@ overflow_sub-room c =
 pub returns-then-room-last-clause-says : goal.returns-then-room-last-clause-says
 returns-then-room-last-clause-says c =
     let there = rw c.in_ok-sound.ensures.ok_part at c.new.ensures in
-    let m = lent c.args.store c.args.events.now c.args.ends.now in
+    let m = lent c.args.store c.args.events.now c.args.ends.now c.args.words.now in
     let same = c.room-room.ensures ∙ ap room there in
     let s : Short m c.args.trace.now = short_by (lent_sound c.in_ok-sound.sound there) c.first_undeclared.ensures c.in_default.is c.if-trace.false in
     let more : full (room m) ≡ false = sym (ap full same) ∙ sym c.is_full.ensures ∙ c.if-is_full.false in
@@ -78,7 +78,7 @@ returns-then-room-last-clause-says c =
 pub returns-clause-says : goal.returns-clause-says
 returns-clause-says c =
     let there = rw c.in_ok-sound.ensures.ok_part at c.new.ensures in
-    let m = lent c.args.store c.args.events.now c.args.ends.now in
+    let m = lent c.args.store c.args.events.now c.args.ends.now c.args.words.now in
     let same = c.room-room.ensures ∙ ap room there in
     let s : Short m c.args.trace.now = short_by (lent_sound c.in_ok-sound.sound there) c.first_undeclared.ensures c.in_default.is c.if-trace.false in
     let more : full (room m) ≡ false = sym (ap full same) ∙ sym c.is_full.ensures ∙ c.if-is_full.false in

@@ -1,6 +1,7 @@
 use Rattle.std.proofs.Common.{refl, arith}
 use Rattle.declare.proofs.constraints.Members.{few_numbers}
-use Rattle.discovery.proofs.list.Passing.{measured, fulfilments_few, passes_one, considers_kept}
+use Rattle.replay.proofs.Querying.{measured}
+use Rattle.discovery.proofs.list.Passing.{fulfilments_few, passes_one, considers_kept}
 use Rattle.discovery.proofs.list.consider.Goals as goal
 
 pub overflow_cast-counts : goal.overflow_cast-counts

@@ -1,5 +1,5 @@
 use Rattle.std.proofs.Common.{refl, ap, ◌∙◌, Err}
-use Rattle.pruning.specs.Query.{asked_by}
+use Rattle.replay.specs.Query.{asked_by}
 use Rattle.discovery.specs.Passes.{fit_of}
 use Rattle.discovery.proofs.FindContract.{passed_listed, passed_none, all_fit, list_fits, list_short}
 use Rattle.discovery.proofs.list.look.Goals as goal

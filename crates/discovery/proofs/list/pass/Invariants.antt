@@ -1,6 +1,6 @@
 -- The constraints so far are passed, and the iterator has left the others.
 use Rattle.declare.specs.Walk.{left}
-use Rattle.pruning.specs.Query.{asked_by}
+use Rattle.replay.specs.Query.{asked_by}
 use Rattle.discovery.proofs.list.Passing.{Passing}
 use Rattle.discovery.proofs.list.pass.Given as goal
 

@@ -1,7 +1,7 @@
 -- What a query asks.
 -- Assumes nothing.
 use Rattle.eventlog.specs.SoundStore.{traces_in}
-use Rattle.pruning.specs.declared.Query.{Query}
+use Rattle.replay.specs.declared.query.Query.{Query}
 use Rattle.pruning.specs.Question.{Question, question_over}
 
 abbrev pub asked_by : Query → Question

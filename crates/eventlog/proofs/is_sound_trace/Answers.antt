@@ -1,0 +1,35 @@
+use Rattle.std.proofs.Common.{arith, refl, sym, ap, ◌∙◌, take, get_or}
+use lib.Seq.{take-suc}
+use native.Mathlib.Numerals.{add-one}
+use borrow.Author.Tests.{lt-ltb}
+use Rattle.std.proofs.Math.Seq.{take_all}
+use Rattle.base.proofs.Bools.{and_both}
+use Rattle.base.proofs.Lists.{all_last}
+use Rattle.declare.specs.Traces.{all_below}
+use Rattle.eventlog.specs.Words.{word_of}
+use Rattle.eventlog.proofs.WordBits.{word_of_none, one_more}
+use Rattle.eventlog.proofs.is_sound_trace.Goals as goal
+
+pub loop-event-init : goal.loop-event-init
+loop-event-init c = record { declared = refl; made = sym word_of_none }
+
+pub loop-event-preserved : goal.loop-event-preserved
+loop-event-preserved c =
+    let trace = c.args.trace.now in
+    let i = c.loop-event.event-index in
+    let more = ap (λ k. take k trace) (add-one i) ∙ take-suc trace i 0 c.loop-event-test.true in
+    record {
+      declared =
+          ap (all_below c.args.n) more
+          ∙ all_last _ (take i trace) (get_or trace i 0)
+          ∙ and_both _ _ c.loop-event.invariant.declared (lt-ltb _ _ (omega (arith, c.from.ensures, c.if-n-from.false)));
+      made =
+          c.with_bit-made.ensures
+          ∙ rw c.loop-event.invariant.made (one_more (take i trace) (get_or trace i 0))
+          ∙ ap word_of (sym more);
+    }
+
+pub returns : goal.returns
+returns c =
+    let all = take_all c.loop-event.event-index c.args.trace.now c.loop-event-test.false in
+    rw (rw all at c.loop-event.invariant.declared, rw all at c.loop-event.invariant.made)

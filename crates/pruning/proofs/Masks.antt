@@ -1,0 +1,305 @@
+-- What is counted from the words of traces is what is counted over the traces.
+-- Assumes nothing.
+use Prim.Native.Nat.{ℕ, zero, suc, ◌+◌, ◌*◌, ◌%◌, ◌^◌, ◌≤◌, ◌<◌, min}
+use native.Mathlib.Omega.{arith}
+use mathlib.Core.Path.{◌≡◌, refl, sym, ap, ap₂, ◌∙◌}
+use mathlib.Core.Bool.{Bool, true, false, cond, not, ◌&&◌, ◌||◌, and-true, and-false, or-false}
+use mathlib.Core.List.{List, [], ◌∷◌, map}
+use borrow.Author.Tests.{eqb-true, eqb-false, eq-eqb, ne_eqb, lt-ltb, leb-false, lt-leb}
+use lib.Dec.{eqb, leb}
+use lib.ListN.{length, get_or, set, get_or-append}
+use native.Mathlib.Numerals.{add-one}
+use Rattle.std.proofs.lemmas.List.{length-map}
+use Rattle.base.proofs.Stores.{front, front_on, front_all}
+use Rattle.std.specs.Prelude.{drop, bit_and, bit_or, if◌then◌else◌}
+use Rattle.std.specs.Int.{bit_at}
+use Rattle.std.specs.Int.Bits.{or_zero_l, or_self}
+use Rattle.std.specs.List.{filter, list_all, list_any}
+use Rattle.std.proofs.lemmas.Nat.{pow_pos, and_mask, or_comm, le_or_l}
+use Rattle.std.proofs.lemmas.Nat.Bits.{bit_at-lt, bit_at_and, bit_at_or, same_from_bits, and_pow}
+use Rattle.base.specs.Lists.{non_empty, count, range}
+use Rattle.base.proofs.Bools.{either, and_left, and_right, fails_too}
+use Rattle.base.proofs.Lists.{count_filter, count_map, count_same, range_at, range_length}
+use Rattle.declare.specs.declared.constraints.Constraint.{Constraint}
+use Rattle.declare.specs.Traces.{most_activities, all_below}
+use Rattle.declare.specs.Meaning.{occurs}
+use Rattle.declare.proofs.Occurrence.{occurs_any}
+use Rattle.eventlog.specs.Words.{word_of, bit_of, has}
+use Rattle.eventlog.proofs.WordBits.{word_small, word_alone, has_occurs, has_declared, some_bit}
+use Rattle.pruning.specs.declared.Class.{Class}
+use Rattle.pruning.specs.declared.Measure.{Measure}
+use Rattle.pruning.specs.declared.Class.TheVariants.{WithA, All, Either, Both}
+use Rattle.pruning.specs.declared.Settings.{Settings}
+use Rattle.pruning.specs.declared.Frequent.{Frequent}
+use Rattle.pruning.specs.Question.{Question, question_over, measure_of, meets, class_of, counts_for, support, survives_in, survives}
+use Rattle.declare.specs.Constraints.{Over}
+use Rattle.pruning.specs.Masks.{some_of, all_of, traces_by, counts_by, support_by, companions_by, pairs_by, frequent_by, paired, survives_by}
+
+-- ## Any masks
+
+module _ (word x y : ℕ) where
+  -- the same bits, place by place
+  parted : bit_and word (bit_or x y) ≡ bit_or (bit_and word x) (bit_and word y)
+  parted =
+      same_from_bits _ _
+      (λ i.
+      omega (
+        arith,
+        bit_at_and word (bit_or x y) i,
+        bit_at_or x y i,
+        bit_at_or (bit_and word x) (bit_and word y) i,
+        bit_at_and word x i,
+        bit_at_and word y i,
+      ))
+
+  some_either : some_of (bit_or x y) word ≡ some_of x word || some_of y word
+  some_either = go (eqb (bit_and word x) 0) refl
+    where
+      go : (t : Bool) → eqb (bit_and word x) 0 ≡ t → some_of (bit_or x y) word ≡ not t || some_of y word
+      go true none =
+          ap (λ n. not (eqb n 0)) (parted ∙ ap (λ n. bit_or n (bit_and word y)) (eqb-true _ 0 none) ∙ or_zero_l (bit_and word y))
+      go false some =
+          ap not
+          (ne_eqb (bit_and word (bit_or x y)) 0
+          (λ none. eqb-false _ 0 some (omega (arith, parted, le_or_l (bit_and word x) (bit_and word y)))))
+
+  -- all of both
+  all_left : all_of (bit_or x y) word ≡ true → bit_and word x ≡ x
+  all_left h =
+      let all = eqb-true (bit_and word (bit_or x y)) (bit_or x y) h in
+      same_from_bits _ _
+      (λ i.
+      omega (arith, ap (λ n. bit_at n i) all, bit_at_and word (bit_or x y) i, bit_at_or x y i, bit_at_and word x i))
+
+all_both : (word x y : ℕ) → all_of (bit_or x y) word ≡ all_of x word && all_of y word
+all_both word x y = go (all_of (bit_or x y) word) refl
+  where
+    right : all_of (bit_or x y) word ≡ true → bit_and word y ≡ y
+    right h = all_left word y x (ap (λ n. all_of n word) (or_comm y x) ∙ h)
+
+    go : (t : Bool) → all_of (bit_or x y) word ≡ t → t ≡ all_of x word && all_of y word
+    go true h = sym (rw (all_left word x y h, right h, eq-eqb x x refl, eq-eqb y y refl))
+    go false h =
+        sym
+        (fails_too _ _
+        (λ both.
+        let of_x = eqb-true (bit_and word x) x (and_left (all_of x word) (all_of y word) both) in
+        let of_y = eqb-true (bit_and word y) y (and_right (all_of x word) (all_of y word) both) in
+        eq-eqb _ _ (parted word x y ∙ ap₂ bit_or of_x of_y)) h)
+
+-- ## An activity's bit
+
+single : (a : ℕ) → a < most_activities → bit_of a ≡ 2 ^ a
+single a low = word_alone a ∙ rw (lt-ltb a most_activities low)
+
+module _ (word a : ℕ) (low : a < most_activities) where
+  one_bit : bit_and word (bit_of a) ≡ bit_at word a * 2 ^ a
+  one_bit = ap (bit_and word) (single a low) ∙ and_pow word a
+
+  where_set : has a word ≡ true → bit_and word (bit_of a) ≡ bit_of a
+  where_set set = one_bit ∙ ap (λ d. d * 2 ^ a) (eqb-true _ 1 set) ∙ sym (single a low ∙ omega arith)
+
+  where_unset : has a word ≡ false → bit_and word (bit_of a) ≡ 0
+  where_unset unset =
+      let zero : bit_at word a ≡ 0 = omega (arith, bit_at-lt word a, eqb-false _ 1 unset) in
+      one_bit ∙ ap (λ d. d * 2 ^ a) zero ∙ omega arith
+
+  some : bit_of a ≡ 0 → ⊥
+  some none = let positive = pow_pos a in omega (arith, none, single a low)
+
+  some_has : some_of (bit_of a) word ≡ has a word
+  some_has = go (has a word) refl
+    where
+      go : (t : Bool) → has a word ≡ t → some_of (bit_of a) word ≡ t
+      go true set = ap not (ne_eqb _ 0 (λ none. some (sym (where_set set) ∙ none)))
+      go false unset = ap (λ n. not (eqb n 0)) (where_unset unset)
+
+  -- one bit alone is all of them
+  all_has : all_of (bit_of a) word ≡ has a word
+  all_has = go (has a word) refl
+    where
+      go : (t : Bool) → has a word ≡ t → all_of (bit_of a) word ≡ t
+      go true set = eq-eqb _ _ (where_set set)
+      go false unset = ne_eqb _ _ (λ same. some (sym same ∙ where_unset unset))
+
+-- ## The word of a trace of declared activities
+
+-- in an empty trace nothing occurs
+occurs_in_some : (p : List ℕ → Bool) → p [] ≡ false → (trace : List ℕ) → p trace ≡ non_empty trace && p trace
+occurs_in_some p none [] = none
+occurs_in_some p none (x ∷ trace) = refl
+
+module _ (trace : List ℕ) (declared : all_below most_activities trace ≡ true) where
+  some_occurs : (a : ℕ) → a < most_activities → some_of (bit_of a) (word_of trace) ≡ occurs a trace
+  some_occurs a low = some_has (word_of trace) a low ∙ has_declared a trace declared
+
+  all_occurs : (a : ℕ) → a < most_activities → all_of (bit_of a) (word_of trace) ≡ occurs a trace
+  all_occurs a low = all_has (word_of trace) a low ∙ has_declared a trace declared
+
+  some_at_all : some_of 4294967295 (word_of trace) ≡ non_empty trace
+  some_at_all =
+      ap (λ n. not (eqb n 0)) (and_mask (word_of trace) 32 ∙ omega (arith, word_small trace)) ∙ some_bit trace declared
+
+  module _ (a b : ℕ) (low : a < most_activities) (low' : b < most_activities) where
+    counts_trace : (class : Class) → counts_by class (bit_of a) (bit_of b) (word_of trace) ≡ non_empty trace && counts_for class a b trace
+    counts_trace WithA = some_occurs a low ∙ occurs_in_some (counts_for WithA a b) refl trace
+    counts_trace All = some_at_all ∙ sym (and-true (non_empty trace))
+    counts_trace Either =
+        some_either (word_of trace) (bit_of a) (bit_of b)
+        ∙ ap₂ (λ p q. p || q) (some_occurs a low) (some_occurs b low')
+        ∙ occurs_in_some (counts_for Either a b) refl trace
+    counts_trace Both =
+        all_both (word_of trace) (bit_of a) (bit_of b)
+        ∙ ap₂ (λ p q. p && q) (all_occurs a low) (all_occurs b low')
+        ∙ occurs_in_some (counts_for Both a b) refl trace
+
+-- ## All the words
+
+-- R, support and what pruning keeps, over the words of traces of declared activities
+module _ (kept : List (List ℕ)) (declared : list_all (all_below most_activities) kept ≡ true) where
+  pub traces_counted : traces_by (map word_of kept) ≡ length (filter non_empty kept)
+  traces_counted =
+      count_map (some_of 4294967295) word_of kept
+      ∙ count_same (all_below most_activities) (λ trace. some_of 4294967295 (word_of trace)) non_empty kept declared some_at_all
+
+  support_counted :
+      (class : Class) (c : Constraint) → c.a < most_activities → c.b < most_activities →
+      support_by class (map word_of kept) c.a c.b ≡ support class (filter non_empty kept) c
+  unfolding support
+  support_counted class c low low' =
+      count_map (counts_by class (bit_of c.a) (bit_of c.b)) word_of kept
+      ∙ count_same (all_below most_activities) _ (λ trace. non_empty trace && counts_for class c.a c.b trace) kept declared
+      (λ trace declared. counts_trace trace declared c.a c.b low low' class)
+      ∙ sym (count_filter non_empty (counts_for class c.a c.b) kept)
+
+-- ## Frequent pairs
+
+module _ (p : ℕ → Bool) (b : ℕ) where
+  abbrev any_from : List ℕ → Bool
+  any_from xs = list_any (λ x. eqb x b) (filter p xs)
+
+  any_more : (x : ℕ) (xs : List ℕ) → any_from (x ∷ xs) ≡ (p x && eqb x b) || any_from xs
+  any_more x xs = go (p x)
+    where
+      go : (t : Bool) → list_any (λ x. eqb x b) (cond t (x ∷ filter p xs) (filter p xs)) ≡ (t && eqb x b) || any_from xs
+      go true = refl
+      go false = refl
+
+  below_range : (first more : ℕ) → b < first → any_from (range first more) ≡ false
+  below_range first zero low = refl
+  below_range first (suc more) low =
+      any_more first (range (suc first) more)
+      ∙ rw (ne_eqb first b (λ same. omega arith), and-false (p first)) (below_range (suc first) more (omega arith))
+
+  in_range : (first more : ℕ) → first ≤ b → b < first + more → any_from (range first more) ≡ p b
+  in_range first zero low high = absurd (omega arith)
+  in_range first (suc more) low high =
+      any_more first (range (suc first) more)
+      ∙ either (eqb first b)
+      (λ same.
+      let here = eqb-true first b same in
+      rw (same, below_range (suc first) more (omega arith)) (or-false (p first && true) ∙ and-true (p first) ∙ ap p here))
+      (λ other. rw (other, and-false (p first)) (in_range (suc first) more (omega (arith, eqb-false first b other)) (omega arith)))
+
+-- what is filtered of a range has just those of it that pass
+occurs_filtered : (p : ℕ → Bool) (more b : ℕ) → b < more → occurs b (filter p (range 0 more)) ≡ p b
+occurs_filtered p more b high = occurs_any b (filter p (range 0 more)) ∙ in_range p b 0 more (omega arith) (omega arith)
+
+-- the companions of each activity, one behind the other
+module _ (class : Class) (m : Measure) (words there : List ℕ) where
+  abbrev so_many : ℕ
+  so_many = min m.activities most_activities
+
+  abbrev made : List ℕ
+  made = map (companions_by class m words) (range 0 so_many)
+
+  made_length : length made ≡ so_many
+  made_length = length-map (range 0 so_many) (companions_by class m words) ∙ range_length 0 so_many
+
+  made_at : (a : ℕ) → a < so_many → get_or made a 0 ≡ companions_by class m words a
+  made_at a within = range_at (companions_by class m words) so_many a 0 within
+
+  pairs_at : (a : ℕ) → a < so_many → get_or (pairs_by class m words there) a 0 ≡ companions_by class m words a
+  unfolding pairs_by
+  pairs_at a within = get_or-append made (drop so_many there) 0 a (omega (arith, made_length)) ∙ made_at a within
+
+  -- one more in its place
+  pub pairs_more :
+      (a : ℕ) → a < so_many → 32 ≤ length there → set (front made a there) a (companions_by class m words a) ≡ front made (a + 1) there
+  pairs_more a within long =
+      ap (set (front made a there) a) (sym (made_at a within))
+      ∙ front_on made a there (omega (arith, made_length)) (omega arith)
+      ∙ ap (λ k. front made k there) (sym (add-one a))
+
+  -- and all of them
+  pub pairs_all : front made so_many there ≡ pairs_by class m words there
+  unfolding pairs_by
+  pairs_all = front_all made so_many there made_length
+
+module _ (m : Measure) (few : m.activities ≤ most_activities) (words there : List ℕ) where
+  paired_frequent :
+      (class : Class) (a b : ℕ) → a < m.activities → b < m.activities →
+      paired (pairs_by class m words there) a b ≡ meets m (support_by class words a b)
+  paired_frequent class a b declared declared' =
+      let frequent : ℕ → Bool = λ b. meets m (support_by class words a b) in
+      let all : min m.activities most_activities ≡ m.activities = omega arith in
+      let same : a % 32 ≡ a = omega arith in
+      let same' : b % 32 ≡ b = omega arith in
+      ap₂ (λ i j. has j (get_or (pairs_by class m words there) i 0)) same same'
+      ∙ ap (has b) (pairs_at class m words there a (omega arith) ∙ ap (λ n. word_of (filter frequent (range 0 n))) all)
+      ∙ has_occurs b (filter frequent (range 0 m.activities)) (omega arith)
+      ∙ occurs_filtered frequent m.activities b declared'
+
+-- ## What pruning keeps
+
+-- the class of the traces with a is that of templates for one activity
+one_activity : (template : ℕ) → class_of template ≡ WithA → leb template 8 ≡ true
+one_activity template e = either (leb template 8) (λ one. one) (λ more. absurd (other more))
+  where
+    no : (x : Bool) → (if x then Either else Both) ≡ WithA → ⊥
+    no true e = cc
+    no false e = cc
+
+    other : leb template 8 ≡ false → ⊥
+    other more =
+        let above = leb-false template 8 more in
+        no _
+        (rw (
+          lt-leb template 3 (omega arith),
+          and-false (leb 1 template),
+          more,
+          and-false (leb 7 template),
+          lt-leb template 6 (omega arith),
+          and-false (leb 4 template),
+        ) at e)
+
+module _ (kept : List (List ℕ)) (declared : list_all (all_below most_activities) kept ≡ true) (n : ℕ) (few : n ≤ most_activities)
+    (settings : Settings) (c : Constraint) (over : Over n c) (f : Frequent) where
+  abbrev q : Question
+  q = question_over n kept settings
+
+  abbrev words : List ℕ
+  words = map word_of kept
+
+  counted : (class : Class) → support_by class words c.a c.b ≡ support class q.traces c
+  counted class = support_counted kept declared class c (omega (arith, over.a_declared)) (omega (arith, over.b_declared))
+
+  frequent :
+      (class : Class) (there : List ℕ) →
+      paired (pairs_by class (measure_of q) words there) c.a c.b ≡ meets (measure_of q) (support_by class words c.a c.b)
+  frequent class there = paired_frequent (measure_of q) few words there class c.a c.b over.a_declared over.b_declared
+
+  -- the traces with a or a are those with a
+  by_class : (class : Class) → class ≡ class_of c.template → survives_by (frequent_by (measure_of q) words f) class c ≡ survives_in class q c
+  by_class WithA of_template =
+      let one : c.b ≡ c.a = sym (eqb-true c.a c.b (rw (one_activity c.template (sym of_template)) at over.paired)) in
+      frequent Either f.either
+      ∙ ap (λ b. meets (measure_of q) (count (some_of (bit_or (bit_of c.a) (bit_of b))) words)) one
+      ∙ ap (λ bits. meets (measure_of q) (count (some_of bits) words)) (or_self (bit_of c.a))
+      ∙ ap (meets (measure_of q)) (counted WithA)
+  by_class All of_template = refl
+  by_class Either of_template = frequent Either f.either ∙ ap (meets (measure_of q)) (counted Either)
+  by_class Both of_template = frequent Both f.both ∙ ap (meets (measure_of q)) (counted Both)
+
+  pub survives_counted : {class : Class} → class ≡ class_of c.template → survives_by (frequent_by (measure_of q) words f) class c ≡ survives q c
+  survives_counted {class} of_template = by_class class of_template ∙ ap (λ class. survives_in class q c) of_template
