@@ -16,7 +16,7 @@
  *   ends     the k-th number is the length of the first k traces together. `ends_length` is the room, in numbers.
  *   words    one number for each kept trace: bit s (1u << s) is set just when activity s occurs in it, so that an empty
  *            trace's is 0. `words_length` is the room, in numbers.
- *   answer   3 numbers that the call writes, refused or not: see each call.
+ *   answer   4 numbers that the call writes, refused or not: see each call.
  * A length counts elements and not bytes. What is lent must be there in full, at its type's alignment, for the whole
  * call, and what a call writes must not overlap anything else that it is lent. No pointer may be null, also where its
  * length is 0. Any numbers and bytes may stand in what is lent. Where record and buffers are no sound store (below,
@@ -85,13 +85,13 @@ bool budgieleaf_is_sound(const uint32_t store[2], const uint8_t *events, size_t 
                          size_t ends_length, const uint32_t *words, size_t words_length);
 
 /*
- * One trace more, of 0 to 4096 activities, behind those kept. Accepted: answer is { 0, 0, 0 }. An empty trace is kept as
+ * One trace more, of 0 to 4096 activities, behind those kept. Accepted: answer is { 0, 0, 0, 0 }. An empty trace is kept as
  * any other: it takes an end and a word, the word 0, 8 counts it, and budgieleaf_find passes over it.
  * Refusals, the first that holds: 1, 6, 7, 8, 9. For 6 the detail is the lowest place of an activity not below N.
  */
 uint32_t budgieleaf_add(uint32_t store[2], uint8_t *events, size_t events_length, uint32_t *ends, size_t ends_length,
                         uint32_t *words, size_t words_length, const uint8_t *trace, size_t trace_length,
-                        uint64_t answer[3]);
+                        uint64_t answer[4]);
 
 /*
  * The traces of a log in columns, behind those kept. A line has 10 bytes: the trace number (1 to 999999) in columns 1
@@ -104,7 +104,7 @@ uint32_t budgieleaf_add(uint32_t store[2], uint8_t *events, size_t events_length
  */
 uint32_t budgieleaf_read(uint32_t store[2], uint8_t *events, size_t events_length, uint32_t *ends, size_t ends_length,
                          uint32_t *words, size_t words_length, const uint8_t *log, size_t log_length,
-                         uint64_t answer[3]);
+                         uint64_t answer[4]);
 
 /*
  * The constraints that enough of the kept traces fulfil: a count c meets a threshold t over R traces where
@@ -112,13 +112,15 @@ uint32_t budgieleaf_read(uint32_t store[2], uint8_t *events, size_t events_lengt
  * more. Each constraint takes four numbers of the list: template (1 to 24), a, b (for templates 1 to 8, a again) and the
  * count of traces fulfilled, by template, then a, then b, rising. Numbers past the last constraint stay as they were.
  * There are at most 14 * N * N - 6 * N constraints, so 4 * 14144 numbers are always enough.
- * Accepted: answer is { constraints listed, constraints replayed after pruning, R }; the other store[1] - R traces are
- * empty.
+ * Accepted: answer is { constraints listed, constraints replayed after pruning, R, events read }; the other
+ * store[1] - R traces are empty. Events read says how many activities replay was handed, each constraint that pruning
+ * keeps taken once: those of the traces with a for templates 1 to 3, 7 and 8, of all for 4 to 6, of those with a or b
+ * for 9, 10, 12, 23 and 24, of those with both for 11 and 13 to 22.
  * Refusals, the first that holds: 1, 3, 11, 10. Where only empty traces are kept, it is 11.
  */
 uint32_t budgieleaf_find(const uint32_t store[2], const uint8_t *events, size_t events_length, const uint32_t *ends,
                          size_t ends_length, const uint32_t *words, size_t words_length, uint32_t threshold,
-                         uint16_t *list, size_t list_length, uint64_t answer[3]);
+                         uint16_t *list, size_t list_length, uint64_t answer[4]);
 
 /*
  * WATCHING A RUN WHILE IT GROWS

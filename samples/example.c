@@ -24,13 +24,13 @@ static int refused(const char *call, uint32_t number, uint64_t detail)
     return 1;
 }
 
-static uint32_t add(const uint8_t *trace, size_t length, uint64_t answer[3])
+static uint32_t add(const uint8_t *trace, size_t length, uint64_t answer[4])
 {
     return budgieleaf_add(store, events, sizeof events, ends, sizeof ends / sizeof *ends, words, sizeof words / sizeof *words,
                           trace, length, answer);
 }
 
-static uint32_t find(uint32_t threshold, size_t rules, uint64_t answer[3])
+static uint32_t find(uint32_t threshold, size_t rules, uint64_t answer[4])
 {
     return budgieleaf_find(store, events, sizeof events, ends, sizeof ends / sizeof *ends, words, sizeof words / sizeof *words,
                            threshold, list, 4 * rules, answer);
@@ -44,7 +44,7 @@ int main(void)
                               "     5  0\n     5  2\n";
     static const uint8_t by_hand[] = {0, 1, 2};
     static const uint8_t mistyped[] = {0, 7, 1, 9};
-    uint64_t answer[3];
+    uint64_t answer[4];
     uint32_t number = budgieleaf_open(3, store);
 
     if (number != 0)
@@ -80,7 +80,8 @@ int main(void)
     number = find(900, sizeof list / sizeof *list / 4, answer);
     if (number != 0)
         return refused("find", number, answer[0]);
-    printf("find: %" PRIu64 " rules, %" PRIu64 " replayed, %" PRIu64 " traces\n", answer[0], answer[1], answer[2]);
+    printf("find: %" PRIu64 " rules, %" PRIu64 " replayed, %" PRIu64 " traces, %" PRIu64 " events read\n", answer[0], answer[1],
+           answer[2], answer[3]);
     for (uint64_t k = 0; k < answer[0]; k++)
         printf("%2d %2d %2d %4d\n", list[4 * k], list[4 * k + 1], list[4 * k + 2], list[4 * k + 3]);
     return 0;

@@ -10,6 +10,8 @@ pub struct FindAnswer {
     pub listed: u32,
     pub replayed: u32,
     pub traces: u32,
+    /// How many events were handed to replayers, each kept constraint taken once.
+    pub events_read: u64,
 }
 
 /// Each call on a store is lent its memory, and sets the record there.

@@ -94,30 +94,30 @@ impl Store {
     }
 }
 
-/// The answer's three numbers between marks.
-struct Answer([u64; 5]);
+/// The answer's four numbers between marks.
+struct Answer([u64; 6]);
 
 impl Answer {
     fn new() -> Answer {
-        Answer([MARK as u64; 5])
+        Answer([MARK as u64; 6])
     }
 
     fn numbers(&mut self) -> *mut u64 {
         self.0[1..].as_mut_ptr()
     }
 
-    fn read(&self) -> [u64; 3] {
-        assert!(self.0[0] == MARK as u64 && self.0[4] == MARK as u64, "written beside the answer");
-        [self.0[1], self.0[2], self.0[3]]
+    fn read(&self) -> [u64; 4] {
+        assert!(self.0[0] == MARK as u64 && self.0[5] == MARK as u64, "written beside the answer");
+        [self.0[1], self.0[2], self.0[3], self.0[4]]
     }
 
     /// The answer's numbers, or the refusal; of a refusal only the detail may be other than 0.
-    fn said(&self, number: u32) -> Result<[u64; 3], Refusal> {
-        let [detail, second, third] = self.read();
+    fn said(&self, number: u32) -> Result<[u64; 4], Refusal> {
+        let [detail, others @ ..] = self.read();
         if number == 0 {
-            return Ok([detail, second, third]);
+            return Ok(self.read());
         }
-        assert_eq!([second, third], [0, 0], "numbers behind the detail of refusal {number}");
+        assert_eq!(others, [0; 3], "numbers behind the detail of refusal {number}");
         Err(Refusal { number, detail })
     }
 }
@@ -166,7 +166,7 @@ impl Calls for Archive {
             )
         };
         memory.record = store.record();
-        answer.said(number).map(|numbers| assert_eq!(numbers, [0, 0, 0]))
+        answer.said(number).map(|numbers| assert_eq!(numbers, [0; 4]))
     }
 
     fn read(&mut self, memory: &mut Memory, log: &[u8]) -> Result<u32, Refusal> {
@@ -187,8 +187,8 @@ impl Calls for Archive {
             )
         };
         memory.record = store.record();
-        answer.said(number).map(|[added, second, third]| {
-            assert_eq!([second, third], [0, 0]);
+        answer.said(number).map(|[added, others @ ..]| {
+            assert_eq!(others, [0; 3]);
             u32::try_from(added).expect("a number of traces")
         })
     }
@@ -213,10 +213,11 @@ impl Calls for Archive {
         };
         assert_eq!(store.record(), memory.record, "find leaves the record");
         let number_of = |k: u64| u32::try_from(k).expect("a number of 32 bits");
-        answer.said(number).map(|[listed, replayed, traces]| FindAnswer {
+        answer.said(number).map(|[listed, replayed, traces, events_read]| FindAnswer {
             listed: number_of(listed),
             replayed: number_of(replayed),
             traces: number_of(traces),
+            events_read,
         })
     }
 }

@@ -1,9 +1,10 @@
 //! A finder in plain Rust, as fast as its kind allows and with no proof: what the benchmark sets beside the archive's `find`. It
 //! works as that one does: class by template number, support counted from the words alone, one replay of each trace for each
-//! constraint that pruning keeps, and one before that where the list might not fit; no memory but what is lent. A replay keeps
+//! constraint that pruning keeps, and one before that where the list might not fit; no memory but what is lent. Traces that do not count
+//! for the constraint's class are passed over, told by their words. A replay keeps
 //! one state of the constraint's own automaton and looks the next one up. It counts support for each constraint, and not once a
 //! pair, as it has no place to remember it. A second finder is what a user might write without words: it does not look at them,
-//! and its support lets the standard library search the events.
+//! and lets the standard library search the events, for support and for what is to be replayed.
 
 use crate::calls::FindAnswer;
 use crate::lent::{Memory, Record};
@@ -139,9 +140,13 @@ fn sound_with_words(memory: &Memory) -> Option<Kept<'_>> {
     sound.then_some(Kept { words, ..store })
 }
 
+/// What stands for the words of a finder that has none.
+static NO_WORDS: [u32; 4095] = [0; 4095];
+
 /// What is kept, where each kept activity is declared, whatever the words.
 fn sound_without_words(memory: &Memory) -> Option<Kept<'_>> {
-    kept(memory).filter(|store| store.events.iter().all(|&x| (x as u32) < store.record.activities))
+    let store = kept(memory).filter(|store| store.events.iter().all(|&x| (x as u32) < store.record.activities))?;
+    Some(Kept { words: &NO_WORDS[..store.record.traces as usize], ..store })
 }
 
 fn count_of(words: &[u32], counts: impl Fn(u32) -> bool) -> u32 {
@@ -181,21 +186,94 @@ fn support_by_library(store: Kept, r: u32, template: u8, a: u8, b: u8) -> u32 {
     count as u32
 }
 
+/// How many traces count for a constraint: of a store and its R.
+type Support = fn(Kept, u32, u8, u8, u8) -> u32;
+
+/// How a finder tells which traces count for a constraint.
+trait Tells {
+    fn of(template: u8, a: u8, b: u8) -> Self;
+    fn counts(&self, trace: &[u8], word: u32) -> bool;
+}
+
+/// By their words: one of some bits is set, and all of others.
+struct ByWord {
+    some: u32,
+    all: u32,
+}
+
+impl Tells for ByWord {
+    #[inline]
+    fn of(template: u8, a: u8, b: u8) -> ByWord {
+        let (a, b) = (1 << a, 1 << b);
+        let (some, all) = match template {
+            1..=3 | 7..=8 => (a, 0),
+            4..=6 => (u32::MAX, 0),
+            9..=10 | 12 | 23..=24 => (a | b, 0),
+            _ => (u32::MAX, a | b),
+        };
+        ByWord { some, all }
+    }
+
+    #[inline]
+    fn counts(&self, _: &[u8], word: u32) -> bool {
+        word & self.some != 0 && word & self.all == self.all
+    }
+}
+
+/// By a search of their events.
+struct BySearch {
+    template: u8,
+    a: u8,
+    b: u8,
+}
+
+impl Tells for BySearch {
+    #[inline]
+    fn of(template: u8, a: u8, b: u8) -> BySearch {
+        BySearch { template, a, b }
+    }
+
+    #[inline]
+    fn counts(&self, trace: &[u8], _: u32) -> bool {
+        match self.template {
+            1..=3 | 7..=8 => has(trace, self.a),
+            4..=6 => !trace.is_empty(),
+            9..=10 | 12 | 23..=24 => has(trace, self.a) || has(trace, self.b),
+            _ => has(trace, self.a) && has(trace, self.b),
+        }
+    }
+}
+
 fn meets(count: u32, threshold: u32, traces: u32) -> bool {
     1000 * count >= threshold * traces
 }
 
-/// Goes over the constraints in their order and hands each one to be listed on, with its count. Gives the replayed number.
-fn walk(
+/// The fulfilled traces of a constraint, and how many events were read for it.
+#[inline]
+fn replay<T: Tells>(automaton: &Automaton, store: Kept, template: u8, a: u8, b: u8) -> (u32, u64) {
+    let tells = T::of(template, a, b);
+    let (mut fulfilled, mut events_read) = (0, 0);
+    for (trace, &word) in all_traces(store).zip(store.words) {
+        if tells.counts(trace, word) {
+            fulfilled += automaton.fulfilled(template, a, b, trace) as u32;
+            events_read += trace.len() as u64;
+        }
+    }
+    (fulfilled, events_read)
+}
+
+/// Goes over the constraints in their order and hands each one to be listed on, with its count. Gives the replayed number, and that of the
+/// events read.
+fn walk<T: Tells>(
     automaton: &Automaton,
-    support: impl Fn(Kept, u32, u8, u8, u8) -> u32 + Copy,
+    support: Support,
     store: Kept,
     r: u32,
     threshold: u32,
     mut listed: impl FnMut([u16; NUMBERS]),
-) -> u32 {
+) -> (u32, u64) {
     let n = store.record.activities as u8;
-    let mut replayed = 0;
+    let (mut replayed, mut events_read) = (0, 0);
     for template in 1..=24u8 {
         for a in 0..n {
             let (from, to) = match template {
@@ -210,21 +288,22 @@ fn walk(
                 if !meets(support(store, r, template, a, b), threshold, r) {
                     continue;
                 }
-                let count = traces(store).filter(|w| automaton.fulfilled(template, a, b, w)).count() as u32;
+                let (count, read) = replay::<T>(automaton, store, template, a, b);
                 replayed += 1;
+                events_read += read;
                 if meets(count, threshold, r) {
                     listed([template as u16, a as u16, b as u16, count as u16]);
                 }
             }
         }
     }
-    replayed
+    (replayed, events_read)
 }
 
 /// The find of a sound store with r traces of length 1 or more.
-fn find(
+fn find<T: Tells>(
     automaton: &Automaton,
-    support: impl Fn(Kept, u32, u8, u8, u8) -> u32 + Copy,
+    support: Support,
     store: Kept,
     r: u32,
     threshold: u32,
@@ -238,30 +317,30 @@ fn find(
     }
     if list.len() < room_for_all(store.record.activities) {
         let mut needed = 0;
-        walk(automaton, support, store, r, threshold, |_| needed += 1);
+        walk::<T>(automaton, support, store, r, threshold, |_| needed += 1);
         if list.len() < NUMBERS * needed {
             return Err(refusal(10, needed));
         }
     }
     let mut listed = 0;
     let mut places = list.chunks_exact_mut(NUMBERS);
-    let replayed = walk(automaton, support, store, r, threshold, |rule| {
+    let (replayed, events_read) = walk::<T>(automaton, support, store, r, threshold, |rule| {
         places.next().unwrap().copy_from_slice(&rule);
         listed += 1;
     });
-    Ok(FindAnswer { listed, replayed, traces: r })
+    Ok(FindAnswer { listed, replayed, traces: r, events_read })
 }
 
 /// Support and R from the words, as the proved code has them.
 pub fn by_words(automaton: &Automaton, memory: &Memory, threshold: u32, list: &mut [u16]) -> Result<FindAnswer, Refusal> {
     let store = sound_with_words(memory).ok_or(refusal(1, 0))?;
     let r = count_of(store.words, |word| word != 0);
-    find(automaton, support_by_words, store, r, threshold, list)
+    find::<ByWord>(automaton, support_by_words, store, r, threshold, list)
 }
 
 /// Support and R from the traces, without words.
 pub fn by_library(automaton: &Automaton, memory: &Memory, threshold: u32, list: &mut [u16]) -> Result<FindAnswer, Refusal> {
     let store = sound_without_words(memory).ok_or(refusal(1, 0))?;
     let r = traces(store).count() as u32;
-    find(automaton, support_by_library, store, r, threshold, list)
+    find::<BySearch>(automaton, support_by_library, store, r, threshold, list)
 }

@@ -79,9 +79,7 @@ fn in_ledger(ledger: &mut Ledger, call: &Call) -> Said {
         Call::Open(n) => ledger.open(*n).map(|()| Said::Opened),
         Call::Add(trace) => ledger.add(trace).map(|()| Said::Added),
         Call::Read(log) => ledger.read(log).map(Said::Read),
-        Call::Find(threshold, list) => ledger
-            .find(*threshold, list.get().len())
-            .map(|found| Said::Found(FindAnswer { listed: found.list.len() as u32, replayed: found.replayed, traces: found.traces })),
+        Call::Find(threshold, list) => ledger.find(*threshold, list.get().len()).map(|found| Said::Found(found.answer())),
     };
     said.unwrap_or_else(Said::Refused)
 }

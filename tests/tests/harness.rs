@@ -3,7 +3,7 @@
 use budgieleaf_tests::calls::{Calls, FindAnswer};
 use budgieleaf_tests::lent::{Lent, Memory, Record};
 use budgieleaf_tests::memories::{self, right_words};
-use budgieleaf_tests::oracle::finder::NUMBERS;
+use budgieleaf_tests::oracle::finder::{room_for_all, NUMBERS};
 use budgieleaf_tests::oracle::ledger::Refusal;
 use budgieleaf_tests::oracle::memory::{is_sound, kept, word, Model};
 use budgieleaf_tests::play::{play, Full, Sizes};
@@ -47,6 +47,9 @@ enum Fault {
     Listed,
     Replayed,
     Traces,
+    EventsRead,
+    SkippedCounted,
+    FirstPassCounted,
     ReadCount,
     EmptyDropped,
     FullWithoutEmpty,
@@ -59,7 +62,7 @@ enum Fault {
     FullByEndsAlone,
 }
 
-const FAULTS: [Fault; 29] = [
+const FAULTS: [Fault; 32] = [
     Fault::OpensAny,
     Fault::EventPast,
     Fault::EndPast,
@@ -79,6 +82,9 @@ const FAULTS: [Fault; 29] = [
     Fault::Listed,
     Fault::Replayed,
     Fault::Traces,
+    Fault::EventsRead,
+    Fault::SkippedCounted,
+    Fault::FirstPassCounted,
     Fault::ReadCount,
     Fault::EmptyDropped,
     Fault::FullWithoutEmpty,
@@ -98,6 +104,11 @@ fn empty(memory: &Memory) -> u32 {
     } else {
         0
     }
+}
+
+/// The kept events of a sound memory.
+fn events(memory: &Memory) -> u64 {
+    kept(memory).traces.iter().map(|w| w.len() as u64).sum()
 }
 
 /// The model with one fault, and whether it has come into play.
@@ -234,6 +245,14 @@ impl Calls for Faulty {
                 found.listed += self.when(Fault::Listed, true) as u32;
                 found.replayed += self.when(Fault::Replayed, true) as u32;
                 found.traces += self.when(Fault::Traces, true) as u32;
+                found.events_read += self.when(Fault::EventsRead, true) as u64;
+                let all = found.replayed as u64 * events(memory);
+                if self.when(Fault::SkippedCounted, found.events_read != all) {
+                    found.events_read = all;
+                }
+                if self.when(Fault::FirstPassCounted, list.len() < room_for_all(memory.record.activities)) {
+                    found.events_read *= 2;
+                }
                 let empty = empty(memory);
                 if self.when(Fault::EmptyInR, empty > 0) {
                     found.traces += empty;
@@ -245,7 +264,7 @@ impl Calls for Faulty {
             }
         }
         if said.is_err_and(|r| r.number == 11) && self.when(Fault::OnlyEmptyListed, memory.record.traces > 0) {
-            said = Ok(FindAnswer { listed: 0, replayed: 0, traces: 0 });
+            said = Ok(FindAnswer { listed: 0, replayed: 0, traces: 0, events_read: 0 });
         }
         said
     }

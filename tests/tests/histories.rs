@@ -144,7 +144,7 @@ fn rows_of_document_01() {
     let mut call = |call| history.call(call).unwrap();
     assert_eq!(call(Call::Add(vec![0, 1])), Said::Added);
     assert_eq!(call(Call::Add(vec![0, 0, 1])), Said::Added);
-    let answer = FindAnswer { listed: 18, replayed: 44, traces: 2 };
+    let answer = FindAnswer { listed: 18, replayed: 44, traces: 2, events_read: 220 };
     assert_eq!(call(Call::Find(1000, list_for(rng, 18))), Said::Found(answer));
     assert_eq!(call(Call::Find(1000, list(rng, NUMBERS * 18 - 1))), Said::Refused(refusal(10, 18)));
     assert_eq!(call(Call::Open(32)), Said::Opened);

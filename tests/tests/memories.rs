@@ -100,6 +100,6 @@ fn slices_longer_than_32_bits_count() {
     assert_eq!((memory.ends.get(), memory.words.get()), (&[9, 10, 7][..], &[1, 1, 9][..]));
     let mut list = vec![0u16; beyond];
     let said = Archive.find(&memory, 1000, &mut list);
-    assert_eq!(said, Ok(FindAnswer { listed: 3, replayed: 8, traces: 2 }));
+    assert_eq!(said, Ok(FindAnswer { listed: 3, replayed: 8, traces: 2, events_read: 80 }));
     assert_eq!(list[..4 * NUMBERS], [[1, 0, 0, 2], [7, 0, 0, 2], [8, 0, 0, 2], [0; NUMBERS]].concat());
 }

@@ -211,15 +211,15 @@ fn rows_of_document_01() {
         String::from_utf8(run(input, 1 << 20)).unwrap()
     };
     let sample = said(b"  21000\n     1  0\n");
-    assert_eq!(sample.lines().next(), Some("    15    18     1"));
+    assert_eq!(sample.lines().next(), Some("    15    18     1        18"));
     assert_eq!(sample.lines().count(), 16);
     let two = said(b"  21000\n     1  0\n     1  1\n     2  0\n     2  0\n     2  1\n");
-    assert_eq!(two.lines().next(), Some("    18    44     2"));
+    assert_eq!(two.lines().next(), Some("    18    44     2       220"));
     assert_eq!(two.lines().count(), 19);
     assert!(said(b" 321000\n     1 31\n").starts_with("   "));
     assert_eq!(said(b" 331000\n     1 31\n"), " 2     0\n");
     let long = |len| said(&[b"  11000\n".to_vec(), b"     1  0\n".repeat(len)].concat());
-    assert!(long(4096).ends_with("     1\n 1  0       1\n 2  0       1\n 3  0       1\n 7  0       1\n 8  0       1\n"));
+    assert!(long(4096).ends_with("     1     32768\n 1  0       1\n 2  0       1\n 3  0       1\n 7  0       1\n 8  0       1\n"));
     assert_eq!(long(4097), " 7  4097\n");
 }
 

@@ -5,6 +5,7 @@ use Rattle.std.specs.Prelude.{ℕ, zero, suc, ◌+◌, ◌-◌, ◌*◌, ◌/◌
 use Rattle.declare.specs.declared.Verdict.{Verdict}
 use Rattle.declare.specs.declared.Verdict.TheVariants.{Fulfilled, NotActivated, Violated}
 use Rattle.automata.specs.declared.Automaton.{Automaton}
+use Rattle.automata.specs.declared.Moves.{Moves}
 use Rattle.automata.specs.declared.Replayer.{Replayer}
 use Rattle.base.specs.Logic.{in_range}
 use Rattle.base.specs.Lists.{range, flat_map}
@@ -138,6 +139,9 @@ unfolding state_verdicts
 verdicts_word template = packed state_verdicts (8 * (template - 1)) 1 1 8
 
 -- of no template: it stays in state 0, not activated
+abbrev pub no_moves : Moves
+no_moves = record { to = replicate 32 0; verdicts = 0 }
+
 abbrev pub no_automaton : Automaton
 no_automaton = record { a = 0; b = 0; other = 0; verdicts = 1 }
 

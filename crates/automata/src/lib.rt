@@ -6,7 +6,7 @@ mod packed;
 mod tables;
 
 ghost use Rattle.std.specs.Prelude.{◌+◌, ◌*◌, ◌<◌, ◌≤◌, ◌≡◌, ◌∷◌, [], length};
-ghost use Rattle.automata.specs.Automata.{next_states, state_verdicts, automaton, no_automaton, moves_of, start, advance, advance_all, verdict_by};
+ghost use Rattle.automata.specs.Automata.{next_states, state_verdicts, automaton, no_automaton, no_moves, moves_of, start, advance, advance_all, verdict_by};
 
 use declare::Verdict;
 
@@ -98,22 +98,29 @@ impl Automaton {
             _ => Automaton::none(),
         }
     }
-
-    // For a constraint on a and b, where each activity leads to.
-    pub fn moves(self, a: u8, b: u8) -> Moves
-        ensures { result ≡ record { to = moves_of self a b; verdicts = self.verdicts } }
-    {
-        let mut moves = Moves {
-            to: [self.other; 32],
-            verdicts: self.verdicts,
-        };
-        moves.to[usize::from(b % 32)] = self.b;
-        moves.to[usize::from(a % 32)] = self.a;
-        moves
-    }
 }
 
 impl Moves {
+    // Nowhere, so far.
+    pub fn none() -> Moves
+        ensures { result ≡ no_moves }
+    {
+        Moves {
+            to: [0; 32],
+            verdicts: 0,
+        }
+    }
+
+    // Those of a constraint on a and b. In place: what is handed back would be copied by memcpy, which the archive for C would then need.
+    pub fn set(&mut self, automaton: Automaton, a: u8, b: u8)
+        ensures { self.new ≡ record { to = moves_of automaton a b; verdicts = automaton.verdicts } }
+    {
+        self.to = [automaton.other; 32];
+        self.to[usize::from(b % 32)] = automaton.b;
+        self.to[usize::from(a % 32)] = automaton.a;
+        self.verdicts = automaton.verdicts;
+    }
+
     // The verdict on a whole trace. The trace is read once, front to back.
     pub fn verdict(&self, trace: &[u8]) -> Verdict
         ensures { result ≡ verdict_by self.now.verdicts (advance_all self.now.to start trace.now) }

@@ -18,7 +18,7 @@ use Rattle.std.specs.Prelude.{if◌then◌else◌, Some, None}
 use Rattle.std.specs.List.{list_all, position, position_from, range_with_len}
 use Rattle.std.proofs.lemmas.Iterator.Adapters.{position_from-zero}
 use Rattle.base.specs.Lists.{filter, count, all, find_index, range, flat_map, equal_lists}
-use Rattle.base.proofs.Bools.{and_left, and_right, and_both, either}
+use Rattle.base.proofs.Bools.{and_left, and_right, and_both, either, clash}
 
 -- ## Parts
 
@@ -244,6 +244,18 @@ count_all p h (x ∷ xs) = count_cons p x xs ∙ rw (h x, count_all p h xs)
 pub count_none {ℓ} : {A : Type ℓ} (xs : List A) → count (λ x. false) xs ≡ 0
 count_none [] = refl
 count_none (x ∷ xs) = count_none xs
+
+-- what passes a test is among what passes a weaker one
+pub filter_within {ℓ} : {A : Type ℓ} (p q : A → Bool) → ((x : A) → p x ≡ true → q x ≡ true) → (xs : List A) → filter p (filter q xs) ≡ filter p xs
+filter_within p q h [] = refl
+filter_within p q h (x ∷ xs) = go (q x) refl (p x) refl (filter_within p q h xs)
+  where
+    go :
+        (s : Bool) → q x ≡ s → (t : Bool) → p x ≡ t → filter p (filter q xs) ≡ filter p xs →
+        filter p (cond s (x ∷ filter q xs) (filter q xs)) ≡ cond (p x) (x ∷ filter p xs) (filter p xs)
+    go true e t e' more = ap (λ ys. cond (p x) (x ∷ ys) ys) more
+    go false e true e' more = clash (h x e') e
+    go false e false e' more = more ∙ sym (ap (λ t. cond t (x ∷ filter p xs) (filter p xs)) e')
 
 -- of those that pass a test, those that pass another pass both
 pub count_filter {ℓ} : {A : Type ℓ} (q p : A → Bool) (xs : List A) → count p (filter q xs) ≡ count (λ x. q x && p x) xs

@@ -15,7 +15,7 @@ use Rattle.eventlog.specs.Calls.{empty, declared_front, Opens, Adds}
 use Rattle.columns.specs.Calls.{Reads}
 use Rattle.columns.specs.Log.{lines, log_checks, spelled}
 use Rattle.pruning.specs.Question.{fulfilments, support}
-use Rattle.discovery.specs.Listing.{listed, replayed, layout}
+use Rattle.discovery.specs.Listing.{listed, replayed, events_read, layout}
 use Rattle.discovery.specs.Calls.{Finds}
 use Rattle.history.specs.Ledger.{find}
 use Rattle.history.specs.Histories.{AlikeFinds}
@@ -49,20 +49,20 @@ module _ (number : ℕ) (answer : List ℕ) where
 
   pub add_refused :
       (left : Memory) → Replied (Adds two (2 ∷ [])) number left answer →
-      (number ≡ 6) × (answer ≡ 1 ∷ 0 ∷ 0 ∷ []) × (left ≡ two)
+      (number ≡ 6) × (answer ≡ 1 ∷ 0 ∷ 0 ∷ 0 ∷ []) × (left ≡ two)
   unfolding sound kept word_of last_end declared_front
   add_refused left = replied
 
   pub read_accepted :
       (left : Memory) → Replied (Reads start a_log) number left answer →
-      (number ≡ 0) × (answer ≡ 1 ∷ 0 ∷ 0 ∷ []) × (left ≡ memory (keeping 1) (0 ∷ 0 ∷ 7 ∷ []) (2 ∷ 9 ∷ []) (1 ∷ 6 ∷ 6 ∷ []))
+      (number ≡ 0) × (answer ≡ 1 ∷ 0 ∷ 0 ∷ 0 ∷ []) × (left ≡ memory (keeping 1) (0 ∷ 0 ∷ 7 ∷ []) (2 ∷ 9 ∷ []) (1 ∷ 6 ∷ 6 ∷ []))
   unfolding sound kept word_of last_end lines log_checks spelled
   read_accepted left = replied
 
   pub find_accepted :
       (left : List ℕ) → Replied (Finds last by_all list) number left answer →
-      (number ≡ 0) × (answer ≡ 4 ∷ 8 ∷ 2 ∷ []) × (left ≡ four ++ 9 ∷ 9 ∷ [])
-  unfolding sound word_of last_end kept constraints fulfilments support listed replayed layout fulfilled activated holds meanings
+      (number ≡ 0) × (answer ≡ 4 ∷ 8 ∷ 2 ∷ 24 ∷ []) × (left ≡ four ++ 9 ∷ 9 ∷ [])
+  unfolding sound word_of last_end kept constraints fulfilments support listed replayed events_read layout fulfilled activated holds meanings
   find_accepted left = replied
 
 -- ## The two histories
@@ -71,9 +71,9 @@ module _ (number : ℕ) (answer : List ℕ) where
 abbrev told : List ShownToC
 told =
     record { number = 0; answer = []; list = [] } ∷
-    record { number = 0; answer = 0 ∷ 0 ∷ 0 ∷ []; list = [] } ∷
-    record { number = 6; answer = 2 ∷ 0 ∷ 0 ∷ []; list = [] } ∷
-    record { number = 0; answer = 1 ∷ 0 ∷ 0 ∷ []; list = [] } ∷
+    record { number = 0; answer = 0 ∷ 0 ∷ 0 ∷ 0 ∷ []; list = [] } ∷
+    record { number = 6; answer = 2 ∷ 0 ∷ 0 ∷ 0 ∷ []; list = [] } ∷
+    record { number = 0; answer = 1 ∷ 0 ∷ 0 ∷ 0 ∷ []; list = [] } ∷
     []
 
 pub is_history_from_c : HistoryFromC start calls told last
@@ -90,7 +90,7 @@ one_from_c =
       history = is_history_from_c;
       settings = by_all;
       list = list;
-      shown = record { number = 0; answer = 4 ∷ 8 ∷ 2 ∷ []; list = four ++ 9 ∷ 9 ∷ [] };
+      shown = record { number = 0; answer = 4 ∷ 8 ∷ 2 ∷ 24 ∷ []; list = four ++ 9 ∷ 9 ∷ [] };
       memory' = last;
       called = from_c last (find by_all list) found last finds;
     }
@@ -106,7 +106,7 @@ other_from_c =
       history = made_from_c start' last' calls' shown' is_history';
       settings = by_all;
       list = list';
-      shown = record { number = 0; answer = 4 ∷ 8 ∷ 2 ∷ []; list = four ++ 3 ∷ [] };
+      shown = record { number = 0; answer = 4 ∷ 8 ∷ 2 ∷ 24 ∷ []; list = four ++ 3 ∷ [] };
       memory' = last';
       called = from_c last' (find by_all list') found' last' finds';
     }
@@ -115,12 +115,12 @@ pub are_alike_from_c : AlikeFinds one_from_c other_from_c
 are_alike_from_c = record { activities = are_alike.activities; settings = refl; traces = are_alike.traces }
 
 pub are_equal_from_c : EqualFromC one_from_c other_from_c
-are_equal_from_c = record { listed = 4; replayed = 8; all = 2; answer = refl; answer' = refl; lists = refl }
+are_equal_from_c = record { listed = 4; replayed = 8; all = 2; handed = 24; answer = refl; answer' = refl; lists = refl }
 
--- of any two equal finds that list four constraints the three numbers and the first sixteen of the lists are equal
+-- of any two equal finds that list four constraints the four numbers and the first sixteen of the lists are equal
 pub equal_fronts_from_c :
-    (f g : FindFromC) → EqualFromC f g → f.shown.answer ≡ 4 ∷ 8 ∷ 2 ∷ [] →
-    (g.shown.answer ≡ 4 ∷ 8 ∷ 2 ∷ []) × (take 16 f.shown.list ≡ take 16 g.shown.list)
+    (f g : FindFromC) → EqualFromC f g → f.shown.answer ≡ 4 ∷ 8 ∷ 2 ∷ 24 ∷ [] →
+    (g.shown.answer ≡ 4 ∷ 8 ∷ 2 ∷ 24 ∷ []) × (take 16 f.shown.list ≡ take 16 g.shown.list)
 equal_fronts_from_c f g e four =
     let same = sym e.answer ∙ four in
     let listed : e.listed ≡ 4 = cc in

@@ -162,6 +162,7 @@ find_alike f g zero zero' same =
       listed = e.listed;
       replayed = e.replayed;
       all = e.all;
+      handed = e.handed;
       answer = ap (λ s. s.answer) (this_call f).told ∙ ap answer_of e.said;
       answer' = ap (λ s. s.answer) (this_call g).told ∙ ap answer_of e.said';
       lists = ap front (this_call f).told ∙ e.lists ∙ sym (ap front (this_call g).told);

@@ -82,8 +82,9 @@ pub record EqualFromC (f g : FindFromC) : Type 0 where
   pub listed : ℕ
   pub replayed : ℕ
   pub all : ℕ
-  pub answer : f.shown.answer ≡ listed ∷ replayed ∷ all ∷ []
-  pub answer' : g.shown.answer ≡ listed ∷ replayed ∷ all ∷ []
+  pub handed : ℕ
+  pub answer : f.shown.answer ≡ listed ∷ replayed ∷ all ∷ handed ∷ []
+  pub answer' : g.shown.answer ≡ listed ∷ replayed ∷ all ∷ handed ∷ []
   pub lists : take (numbers * listed) f.shown.list ≡ take (numbers * listed) g.shown.list
 
 -- All that is claimed of histories holds of the calls from C.

@@ -10,14 +10,14 @@ abbrev pub number_of : Reply → ℕ
 number_of (gives values) = 0
 number_of (refused number detail) = number
 
--- values, and then zeros, three numbers in all
-abbrev pub three : List ℕ → List ℕ
-three values = take 3 (values ++ 0 ∷ 0 ∷ 0 ∷ [])
+-- values, and then zeros, four numbers in all
+abbrev pub four : List ℕ → List ℕ
+four values = take 4 (values ++ 0 ∷ 0 ∷ 0 ∷ 0 ∷ [])
 
--- the three numbers that it hands back: the values that it gives, or the detail
+-- the four numbers that it hands back: the values that it gives, or the detail
 abbrev pub answer_of : Reply → List ℕ
-answer_of (gives values) = three values
-answer_of (refused number detail) = three (detail ∷ [])
+answer_of (gives values) = four values
+answer_of (refused number detail) = four (detail ∷ [])
 
 -- what is said, in numbers
 pub record InNumbers (said : Reply) (number : ℕ) (answer : List ℕ) : Type 0 where

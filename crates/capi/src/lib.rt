@@ -14,7 +14,7 @@ ghost use Rattle.capi.specs.Histories.{CalledFromC, to_c};
 use answers::Refusal;
 use eventlog::Store;
 use pruning::Settings;
-use values::Values;
+use values::{ANSWER, Values};
 use watcher::{MOST_CONSTRAINTS, Watcher};
 
 // The number that a call returns: 0, or the refusal's. 0 and no Option, since C reads it.
@@ -28,13 +28,13 @@ fn number<T>(said: &Result<T, Refusal>) -> u32
 }
 
 // What a call says: its number, and the answer written.
-fn put<T: Values + Drop>(answer: &mut [u64; 3], said: Result<T, Refusal>) -> u32
+fn put<T: Values + Drop>(answer: &mut [u64; ANSWER], said: Result<T, Refusal>) -> u32
     ensures { InNumbers (said_by T.values said) result answer.new }
 {
     let number = number(&said);
     *answer = match said {
         Ok(value) => value.numbers(),
-        Err(refusal) => [refusal.detail as u64, 0, 0],
+        Err(refusal) => [refusal.detail as u64, 0, 0, 0],
     };
     number
 }
@@ -78,7 +78,7 @@ pub extern "C" fn budgieleaf_add(
     ends: &mut [u32],
     words: &mut [u32],
     trace: &[u8],
-    answer: &mut [u64; 3],
+    answer: &mut [u64; ANSWER],
 ) -> u32
     ensures { CalledFromC (lent store.old events.old ends.old words.old) (add_of trace.now) (to_c result answer.new [])
         (lent store.new events.new ends.new words.new) }
@@ -93,7 +93,7 @@ pub extern "C" fn budgieleaf_read(
     ends: &mut [u32],
     words: &mut [u32],
     log: &[u8],
-    answer: &mut [u64; 3],
+    answer: &mut [u64; ANSWER],
 ) -> u32
     ensures { CalledFromC (lent store.old events.old ends.old words.old) (read_of log.now) (to_c result answer.new [])
         (lent store.new events.new ends.new words.new) }
@@ -109,7 +109,7 @@ pub extern "C" fn budgieleaf_find(
     words: &[u32],
     threshold: u32,
     list: &mut [u16],
-    answer: &mut [u64; 3],
+    answer: &mut [u64; ANSWER],
 ) -> u32
     ensures { CalledFromC (lent store.now events.now ends.now words.now) (find_of (record { threshold = threshold }) list.old)
         (to_c result answer.new list.new) (lent store.exit.now events.exit.now ends.exit.now words.exit.now) }

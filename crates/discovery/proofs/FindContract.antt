@@ -22,7 +22,7 @@ use Rattle.discovery.specs.declared.list.Tally.{Tally}
 use Rattle.pruning.specs.declared.Settings.{Settings}
 use Rattle.declare.specs.Constraints.{constraints}
 use Rattle.pruning.specs.Question.{Question, asked, trace_count}
-use Rattle.discovery.specs.Listing.{is_listed, listed, replayed, numbers, layout}
+use Rattle.discovery.specs.Listing.{is_listed, listed, replayed, events_read, numbers, layout}
 use Rattle.pruning.specs.Question.{threshold_in_range}
 use Rattle.discovery.specs.Calls.{Finds, find_checks, checks_of_find, find_values, with_list}
 use Rattle.discovery.specs.Passes.{Considers, none_yet, fit_of}
@@ -37,6 +37,10 @@ module _ {q : Question} {list list' : List ℕ} {t : Tally} (p : Considers q (co
   pub passed_replayed : t.replayed ≡ length (replayed q)
   unfolding replayed
   passed_replayed = omega (arith, p.replayed)
+
+  pub passed_read : t.events_read ≡ events_read q (replayed q)
+  unfolding replayed
+  passed_read = omega (arith, p.read)
 
   pub passed_written : list' ≡ with_list q list
   unfolding listed layout
@@ -78,13 +82,14 @@ module _ (m : Memory) (settings : Settings) {list list' : List ℕ} {t : Tally} 
       sound m ≡ true → threshold_in_range settings ≡ true → traces ≡ trace_count (asked m settings) → (traces ≡ 0 → ⊥) →
       fit_of (length (listed (asked m settings))) list ≡ Ok u →
       Considers (asked m settings) (constraints m.store.activities) none_yet list t list' →
-      Finds m settings list (gives (t.listed ∷ t.replayed ∷ traces ∷ [])) list'
+      Finds m settings list (gives (t.listed ∷ t.replayed ∷ traces ∷ t.events_read ∷ [])) list'
   finds_listed is_sound ranged same some fit p =
       let q = asked m settings in
       let not_none = ne_eqb (trace_count q) 0 (λ none. some (same ∙ none)) in
       let says : reply (checks_of_find m settings list) (find_values q) ≡ gives (find_values q) =
       simp (is_sound, ranged, not_none, le-ltb (length list) _ (fits_told _ list fit)) in
-      let values : t.listed ∷ t.replayed ∷ traces ∷ [] ≡ find_values q = cc (passed_listed p, passed_replayed p, same) in
+      let values : t.listed ∷ t.replayed ∷ traces ∷ t.events_read ∷ [] ≡ find_values q =
+      cc (passed_listed p, passed_replayed p, same, passed_read p) in
       outcome_accepted (ap gives values ∙ sym says) refl (passed_written p)
 
 -- what is known where every check of find passes

@@ -15,9 +15,10 @@ use Rattle.declare.specs.Meaning.{fulfilled}
 use Rattle.declare.specs.declared.constraints.Constraint.{Constraint}
 use Rattle.std.specs.List.{filter}
 use Rattle.base.specs.Lists.{non_empty, count, equal_lists}
+use Rattle.eventlog.proofs.Totals.{total_permuted, total_each_same}
 use Rattle.pruning.specs.declared.Settings.{Settings}
-use Rattle.pruning.specs.Question.{Question, question_over, trace_count, measure_of, meets, fulfilments, class_of, support, always, survives}
-use Rattle.discovery.specs.Listing.{rows, is_listed, layout}
+use Rattle.pruning.specs.Question.{Question, question_over, trace_count, measure_of, meets, reads, fulfilments, class_of, support, always, survives}
+use Rattle.discovery.specs.Listing.{rows, is_listed, events_read, layout}
 use Rattle.discovery.specs.Claims.{Alike}
 use Rattle.base.proofs.Lists.{equal_lists_same, equal_lists_refl, count_cons, count_filter, count_none, permuted_length, permuted_count}
 
@@ -132,6 +133,11 @@ module _ (q q' : Question) (alike : AlikeQuestions q q') where
 
   pub survives_alike : survives q ≡ survives q'
   survives_alike = fun_ext (λ c. ap (λ p. always (class_of c.template) || p) (meets_alike (same_support c)))
+
+  pub read_alike : (cs : List Constraint) → events_read q cs ≡ events_read q' cs
+  unfolding events_read
+  read_alike =
+      total_each_same (λ c. filter (reads c) q.traces) (λ c. filter (reads c) q'.traces) (λ c. total_permuted (reads c) alike.traces)
 
   pub layout_alike : (cs : List Constraint) → layout q cs ≡ layout q' cs
   unfolding layout

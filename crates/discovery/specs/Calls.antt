@@ -10,7 +10,7 @@ use Rattle.eventlog.specs.Calls.{unsound}
 use Rattle.discovery.specs.declared.Found.{Found}
 use Rattle.pruning.specs.declared.Settings.{Settings}
 use Rattle.pruning.specs.Question.{Question, asked, trace_count, threshold_in_range}
-use Rattle.discovery.specs.Listing.{listed, replayed, numbers, layout}
+use Rattle.discovery.specs.Listing.{listed, replayed, events_read, numbers, layout}
 
 -- threshold not 1 to 1000
 abbrev pub settings_checks : Settings → List Check
@@ -30,9 +30,9 @@ find_checks q list = checks_for (length (listed q)) q list
 abbrev pub checks_of_find : Memory → Settings → List ℕ → List Check
 checks_of_find m settings list = unsound m ∷ find_checks (asked m settings) list
 
--- constraints listed, constraints replayed, R
+-- constraints listed, constraints replayed, R, events read
 abbrev pub find_values : Question → List ℕ
-find_values q = length (listed q) ∷ length (replayed q) ∷ trace_count q ∷ []
+find_values q = length (listed q) ∷ length (replayed q) ∷ trace_count q ∷ events_read q (replayed q) ∷ []
 
 -- the lent slice with the list at its front
 abbrev pub with_list : Question → List ℕ → List ℕ
@@ -40,7 +40,7 @@ with_list q list = sets list 0 (layout q (listed q))
 
 -- document 01's number and values for each case
 abbrev pub find_said : Result Found Refusal → Reply
-find_said = said_by (λ found. found.constraints ∷ found.replayed ∷ found.traces ∷ [])
+find_said = said_by (λ found. found.constraints ∷ found.replayed ∷ found.traces ∷ found.events_read ∷ [])
 
 -- `find` in memory m, lent a slice that holds `list`
 abbrev pub Finds : Memory → Settings → List ℕ → Reply → List ℕ → Type 0

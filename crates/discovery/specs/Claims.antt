@@ -1,17 +1,24 @@
 -- When kept traces are alike, and that a find goes by them alone.
 -- Assumes nothing.
-use Rattle.std.specs.Prelude.{ℕ, ◌≡◌, true, List, eqb}
+use Rattle.std.specs.Prelude.{ℕ, ◌*◌, ◌≤◌, ◌≡◌, true, List, eqb, length}
 use Rattle.base.specs.Lists.{non_empty, count, equal_lists}
 use Rattle.base.specs.Checks.{Reply, Outcome}
-use Rattle.eventlog.specs.Store.{Memory, sound, kept}
+use Rattle.eventlog.specs.Store.{Memory, last_end, sound, kept}
 use Rattle.pruning.specs.declared.Settings.{Settings}
-use Rattle.pruning.specs.Question.{question_over}
+use Rattle.pruning.specs.Question.{question_over, asked}
+use Rattle.discovery.specs.Listing.{replayed, events_read}
 use Rattle.discovery.specs.Calls.{find_checks, find_values, with_list, Finds}
 
 -- kept traces are alike, whatever their order, when each trace of length 1 or more is there equally often
 abbrev pub Alike : List (List ℕ) → List (List ℕ) → Type 0
 Alike kept kept' =
     (trace : List ℕ) → non_empty trace ≡ true → count (equal_lists eqb trace) kept ≡ count (equal_lists eqb trace) kept'
+
+-- "At most replayed rules times kept steps": these are the last end.
+abbrev pub ReadAtMost : Type 0
+ReadAtMost =
+    (m : Memory) (settings : Settings) → sound m ≡ true →
+    events_read (asked m settings) (replayed (asked m settings)) ≤ length (replayed (asked m settings)) * last_end m
 
 -- A find over N and kept traces alone, with no word in any definition that it rests on.
 abbrev pub FindsOver : ℕ → List (List ℕ) → Settings → List ℕ → Reply → List ℕ → Type 0

@@ -9,7 +9,7 @@ use Rattle.declare.specs.Meaning.{meanings, holds, activated, fulfilled, verdict
 use Rattle.declare.specs.Constraints.{constraints}
 use Rattle.pruning.specs.declared.Settings.{Settings}
 use Rattle.pruning.specs.Question.{Question, question_over, meets, fulfilments, support}
-use Rattle.discovery.specs.Listing.{listed, replayed, layout}
+use Rattle.discovery.specs.Listing.{listed, replayed, events_read, layout}
 use Rattle.discovery.specs.Calls.{find_checks, find_values}
 
 abbrev by : ℕ → Settings
@@ -21,7 +21,7 @@ pub data Case : Type 0 where
   on : List ℕ → List (ℕ × Verdict) → Case
   -- how many traces there are, a count of them, and thresholds with whether the count meets them
   counted : ℕ → ℕ → List (ℕ × Bool) → Case
-  -- a question, the list as it is laid out, and the numbers: listed, replayed, traces
+  -- a question, the list as it is laid out, and the numbers: listed, replayed, traces, events read
   finds : Question → List ℕ → List ℕ → Case
   -- a question, a slice lent for the list, and the reply
   replies : Question → List ℕ → Reply → Case
@@ -61,7 +61,7 @@ sample =
     24 ∷ 1 ∷ 0 ∷ 1 ∷
     []
     )
-    (15 ∷ 18 ∷ 1 ∷ []) ∷ []
+    (15 ∷ 18 ∷ 1 ∷ 18 ∷ []) ∷ []
 
 abbrev pub verdicts_on : List ℕ → List (ℕ × Verdict) → List (ℕ × Verdict)
 verdicts_on trace [] = []
@@ -83,32 +83,37 @@ all_by_definition [] = []
 all_by_definition (case ∷ cases) = by_definition case ∷ all_by_definition cases
 
 pub table_holds : all_by_definition table ≡ table
-unfolding table constraints fulfilments support listed replayed layout verdict fulfilled activated holds meanings
+unfolding table constraints fulfilments support listed replayed events_read layout verdict fulfilled activated holds meanings
 table_holds = refl
 
 pub sample_holds : all_by_definition sample ≡ sample
-unfolding sample constraints fulfilments support listed replayed layout verdict fulfilled activated holds meanings
+unfolding sample constraints fulfilments support listed replayed events_read layout verdict fulfilled activated holds meanings
 sample_holds = refl
 
-pub two_runs : find_values (question_over 2 ((0 ∷ 1 ∷ []) ∷ (0 ∷ 0 ∷ 1 ∷ []) ∷ []) (by 1000)) ≡ 18 ∷ 44 ∷ 2 ∷ []
-unfolding constraints fulfilments support listed replayed layout fulfilled activated holds meanings
+pub two_runs : find_values (question_over 2 ((0 ∷ 1 ∷ []) ∷ (0 ∷ 0 ∷ 1 ∷ []) ∷ []) (by 1000)) ≡ 18 ∷ 44 ∷ 2 ∷ 220 ∷ []
+unfolding constraints fulfilments support listed replayed events_read layout fulfilled activated holds meanings
 two_runs = refl
 
 -- where neither activity of a pair occurs, pruning drops the choices and the not successions over it
-pub without_either : find_values (question_over 3 ((2 ∷ []) ∷ []) (by 1000)) ≡ 25 ∷ 28 ∷ 1 ∷ []
-unfolding constraints fulfilments support listed replayed layout fulfilled activated holds meanings
+pub without_either : find_values (question_over 3 ((2 ∷ []) ∷ []) (by 1000)) ≡ 25 ∷ 28 ∷ 1 ∷ 28 ∷ []
+unfolding constraints fulfilments support listed replayed events_read layout fulfilled activated holds meanings
 without_either = refl
+
+-- Of a trace of 0 and one of 1, 1, 0 the second alone is read for what asks for 1 or for both: 150 events, where 44 constraints times 4 are 176.
+pub not_all_read : find_values (question_over 2 ((0 ∷ []) ∷ [] ∷ (1 ∷ 1 ∷ 0 ∷ []) ∷ []) (by 1)) ≡ 26 ∷ 44 ∷ 2 ∷ 150 ∷ []
+unfolding constraints fulfilments support listed replayed events_read layout fulfilled activated holds meanings
+not_all_read = refl
 
 -- beside a trace of length 1 two empty ones count for nothing, though 4 holds on them and 1, 7 and 8 do not
 pub empty_ones : List Case
 empty_ones =
     finds (question_over 1 ([] ∷ (0 ∷ []) ∷ [] ∷ []) (by 1000))
-    (1 ∷ 0 ∷ 0 ∷ 1 ∷ 5 ∷ 0 ∷ 0 ∷ 1 ∷ 6 ∷ 0 ∷ 0 ∷ 1 ∷ 7 ∷ 0 ∷ 0 ∷ 1 ∷ 8 ∷ 0 ∷ 0 ∷ 1 ∷ []) (5 ∷ 8 ∷ 1 ∷ []) ∷
+    (1 ∷ 0 ∷ 0 ∷ 1 ∷ 5 ∷ 0 ∷ 0 ∷ 1 ∷ 6 ∷ 0 ∷ 0 ∷ 1 ∷ 7 ∷ 0 ∷ 0 ∷ 1 ∷ 8 ∷ 0 ∷ 0 ∷ 1 ∷ []) (5 ∷ 8 ∷ 1 ∷ 8 ∷ []) ∷
     replies (question_over 1 ([] ∷ [] ∷ []) (by 1)) [] (refused 11 0) ∷
     []
 
 pub empty_ones_hold : all_by_definition empty_ones ≡ empty_ones
-unfolding empty_ones constraints fulfilments support listed replayed layout verdict fulfilled activated holds meanings
+unfolding empty_ones constraints fulfilments support listed replayed events_read layout verdict fulfilled activated holds meanings
 empty_ones_hold = refl
 
 -- a threshold is 1 to 1000; a slice for five constraints has 20 numbers, and for a shorter one the detail is 5; the order is 3, 11, 10
@@ -118,8 +123,8 @@ one_trace threshold = question_over 1 ((0 ∷ []) ∷ []) (by threshold)
 pub bounds : List Case
 bounds =
     replies (one_trace 0) (replicate 20 0) (refused 3 0) ∷
-    replies (one_trace 1) (replicate 20 0) (gives (5 ∷ 8 ∷ 1 ∷ [])) ∷
-    replies (one_trace 1000) (replicate 20 0) (gives (5 ∷ 8 ∷ 1 ∷ [])) ∷
+    replies (one_trace 1) (replicate 20 0) (gives (5 ∷ 8 ∷ 1 ∷ 8 ∷ [])) ∷
+    replies (one_trace 1000) (replicate 20 0) (gives (5 ∷ 8 ∷ 1 ∷ 8 ∷ [])) ∷
     replies (one_trace 1001) (replicate 20 0) (refused 3 0) ∷
     replies (one_trace 1000) (replicate 19 0) (refused 10 5) ∷
     replies (question_over 1 [] (by 1001)) [] (refused 3 0) ∷
@@ -127,5 +132,5 @@ bounds =
     []
 
 pub bounds_hold : all_by_definition bounds ≡ bounds
-unfolding bounds constraints fulfilments support listed replayed layout verdict fulfilled activated holds meanings
+unfolding bounds constraints fulfilments support listed replayed events_read layout verdict fulfilled activated holds meanings
 bounds_hold = refl

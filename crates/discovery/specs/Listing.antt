@@ -5,8 +5,9 @@ use Rattle.std.specs.List.{filter}
 use Rattle.base.specs.Lists.{flat_map}
 use Rattle.declare.specs.declared.constraints.Constraint.{Constraint}
 use Rattle.declare.specs.Constraints.{constraints}
+use Rattle.eventlog.specs.Store.{total}
 use Rattle.pruning.specs.declared.Measure.{Measure}
-use Rattle.pruning.specs.Question.{Question, measure_of, meets, fulfilments, support, survives}
+use Rattle.pruning.specs.Question.{Question, measure_of, meets, reads, fulfilments, support, survives}
 use Rattle.discovery.specs.declared.row.Counts.{Counts}
 use Rattle.discovery.specs.declared.row.Row.{Row}
 
@@ -50,6 +51,11 @@ listed q = filter (is_listed q) (constraints q.activities)
 unfoldable pub replayed : Question → List Constraint
 unfolding constraints support
 replayed q = filter (survives q) (constraints q.activities)
+
+-- How many events replayers are handed for these constraints (document 02: how many steps, taking each kept rule once). "The number equals the
+-- sum of those runs' lengths over the kept rules": of the traces that each constraint reads.
+unfoldable pub events_read : Question → List Constraint → ℕ
+events_read q cs = total (flat_map cs λ c. filter (reads c) q.traces)
 
 -- the list as it is laid out
 unfoldable pub layout : Question → List Constraint → List ℕ

@@ -15,12 +15,14 @@ use pruning::Settings;
 use replay::Query;
 pub use row::{Counts, NUMBERS, Row};
 
-// The constraints listed, those replayed, and R: how many kept traces are of length 1 or more.
+// The constraints listed, those replayed, R (how many kept traces are of length 1 or more), and the events read: how many of them were handed to
+// replayers, taking each constraint once. They are at most 14,144 constraints times 4095 traces of 4096 events, more than 32 bits hold.
 #[derive(Clone, Copy, Debug, PartialEq, Eq)]
 pub struct Found {
     pub constraints: u32,
     pub replayed: u32,
     pub traces: u32,
+    pub events_read: u64,
 }
 
 // Document 01's find, over any record, buffers, settings and slice. What is needed is known before the first number is written.
@@ -49,5 +51,6 @@ pub fn find(
         constraints: tally.listed,
         replayed: tally.replayed,
         traces: query.measure.traces,
+        events_read: tally.events_read,
     })
 }

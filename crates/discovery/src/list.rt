@@ -13,11 +13,12 @@ use declare::{Constraint, Constraints};
 use pruning::{Frequent, Measure};
 use replay::{Query, replay};
 
-// How many constraints so far are listed, and how many were replayed.
+// How many constraints so far are listed, how many were replayed, and how many events they have read.
 #[derive(Clone, Copy, Debug, PartialEq, Eq)]
 pub struct Tally {
     pub listed: u32,
     pub replayed: u32,
+    pub events_read: u64,
 }
 
 // Enters a constraint of known counts, wherever they come from: it is written where they meet the threshold. How many are listed then has 64
@@ -34,18 +35,19 @@ fn enter(measure: Measure, c: Constraint, counts: Counts, listed: u32, list: &mu
 
 // Passes over a constraint that pruning keeps: it is replayed, and entered with its counts.
 fn consider(query: Query, walk: Walk, tally: Tally, list: &mut [u16]) -> Tally
-    requires replayable { Replayable (asked_by query) walk.automaton walk.constraint }
+    requires replayable { Replayable (asked_by query) walk.constraint walk.class tally.events_read }
     requires tally_fits { TallyFits query.measure.activities tally }
-    ensures { Considers (asked_by query.entry) (walk.constraint ∷ []) tally list.old result list.new }
+    ensures { Considers (asked_by query.entry) (walk.entry.constraint ∷ []) tally list.old result list.new }
 {
     let c = walk.constraint;
-    let replayed = replay(query, c, walk.automaton, tally.replayed);
+    let replayed = replay(query, c, walk.class, tally.replayed, tally.events_read);
     let counts = Counts {
         fulfilled: replayed.fulfilled as u16,
     };
     Tally {
         listed: enter(query.measure, c, counts, tally.listed, list) as u32,
         replayed: replayed.replayed as u32,
+        events_read: replayed.events_read,
     }
 }
 
@@ -57,14 +59,14 @@ pub(crate) fn pass(query: Query, list: &mut [u16]) -> Tally
     let mut tally = Tally {
         listed: 0,
         replayed: 0,
+        events_read: 0,
     };
     let mut frequent = Frequent::none();
     frequent.count(query.measure, query.kept.words());
-    let mut walk = Walk::new();
+    let mut walk = Walk::new(&frequent);
     for c in Constraints::over(query.measure.activities as u8) {
         walk = walk.on_to(c);
-        if frequent.survives(c, walk.class) {
-            walk = walk.with_automaton();
+        if walk.survives() {
             tally = consider(query, walk, tally, list);
         }
     }

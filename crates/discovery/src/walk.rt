@@ -1,69 +1,69 @@
-// What the template settles of the constraint that the walk over them stands at.
+// The constraint that the walk over them stands at, and what its template settles.
 ghost use Rattle.std.specs.Prelude.{◌≡◌};
 ghost use Rattle.pruning.specs.Question.{class_of};
-ghost use Rattle.replay.specs.Replays.{sealed};
+ghost use Rattle.pruning.specs.Masks.{beside_in};
 
 use declare::Constraint;
-use pruning::Class;
-use replay::SealedAutomaton;
+use pruning::{Class, Frequent};
 
-// The constraint, the class of its template, and the automaton that was made last, with its template.
-// Both are made for a template, and not for each of its constraints: that would be most of the work on small logs.
+// The constraint, the class of its template, and the activities beside which pruning keeps its a.
+// The class is made for a template, and the word once for each a, and not for each constraint: that would be much of the work on small logs.
 #[derive(Clone, Copy)]
-pub(crate) struct Walk {
+pub(crate) struct Walk<'a> {
     pub(crate) constraint: Constraint,
     pub(crate) class: Class,
-    made_for: u8,
-    pub(crate) automaton: SealedAutomaton,
+    frequent: &'a Frequent,
+    beside: u32,
     ghost classed: { class ≡ class_of constraint.template },
-    ghost made: { automaton ≡ sealed made_for },
+    ghost found: { beside ≡ beside_in frequent.now class constraint.a },
 }
 
-impl Walk {
-    // At the first constraint. The automaton is that of no template, number 0: with an Option each step would ask whether there is one.
-    pub(crate) fn new() -> Walk {
+impl<'a> Walk<'a> {
+    ghost use Rattle.std.specs.Prelude.{◌≡◌};
+    ghost use Rattle.pruning.specs.Masks.{survives_by};
+
+    // At the first constraint.
+    pub(crate) fn new(frequent: &'a Frequent) -> Walk<'a>
+        ensures { result.frequent.now ≡ frequent.now }
+    {
+        let class = Class::of(1);
         Walk {
             constraint: Constraint {
                 template: 1,
                 a: 0,
                 b: 0,
             },
-            class: Class::of(1),
-            made_for: 0,
-            automaton: SealedAutomaton::of(0),
+            class,
+            frequent,
+            beside: frequent.beside(class, 0),
         }
     }
 
-    // On to another constraint: mostly its template is the same.
-    pub(crate) fn on_to(self, c: Constraint) -> Walk
-        ensures { result.constraint ≡ c }
+    // On to another constraint: mostly its template and a are the same.
+    pub(crate) fn on_to(self, c: Constraint) -> Walk<'a>
+        ensures { (result.constraint ≡ c) × (result.frequent.now ≡ self.entry.frequent.now) }
     {
-        let class = if c.template == self.constraint.template {
-            self.class
-        } else {
-            Class::of(c.template)
-        };
+        if c.a == self.constraint.a && c.template == self.constraint.template {
+            return Walk {
+                constraint: c,
+                class: self.class,
+                frequent: self.frequent,
+                beside: self.beside,
+            };
+        }
+        let class = Class::of(c.template);
         Walk {
             constraint: c,
             class,
-            made_for: self.made_for,
-            automaton: self.automaton,
+            frequent: self.frequent,
+            beside: self.frequent.beside(class, c.a),
         }
     }
 
-    // With the automaton of its template. Where pruning drops all constraints of a template, none is made.
-    pub(crate) fn with_automaton(self) -> Walk
-        ensures { (result.constraint ≡ self.constraint) × (result.automaton ≡ sealed self.constraint.template) }
+    // Whether pruning keeps the constraint.
+    pub(crate) fn survives(self) -> bool
+        ensures { result ≡ survives_by self.entry.frequent.now self.entry.class self.entry.constraint }
     {
-        let template = self.constraint.template;
-        if template == self.made_for {
-            return self;
-        }
-        Walk {
-            constraint: self.constraint,
-            class: self.class,
-            made_for: template,
-            automaton: SealedAutomaton::of(template),
-        }
+        pruning::has(self.beside, self.constraint.b)
     }
 }

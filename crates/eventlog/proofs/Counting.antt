@@ -1,27 +1,17 @@
--- The kept traces for a loop that counts (base/proofs/Counting): it goes over them all, and they are few.
+-- The kept traces and their events are few, so that no number which counts them wraps.
 -- Assumes nothing.
-use Prim.Native.Nat.{ℕ, ◌≤◌}
-use mathlib.Core.Path.{◌≡◌}
-use mathlib.Core.Bool.{Bool, ◌&&◌}
-use mathlib.Core.List.{List}
+use Prim.Native.Nat.{◌≤◌}
 use native.Mathlib.Omega.{arith}
 use lib.ListN.{length}
-use denote.Ref.{Bor}
-use Rattle.std.specs.Iterator.{YieldsFirstRef}
-use Rattle.std.proofs.lemmas.Iterator.{YieldsList}
-use Rattle.std.proofs.lemmas.Iterator.Consumers.{YieldsList-from_first}
-use Rattle.base.specs.Lists.{non_empty}
 use Rattle.eventlog.specs.declared.kept_traces.KeptParts.{KeptParts}
-use Rattle.eventlog.specs.Store.{most_traces}
+use Rattle.eventlog.specs.Store.{most_traces, most_events, total}
 use Rattle.eventlog.specs.SoundStore.{traces_in}
-use Rattle.eventlog.proofs.Laws.{cut_length}
-
--- of length 1 or more, and passing a test
-abbrev pub some_passing : (List ℕ → Bool) → List ℕ → Bool
-some_passing test trace = non_empty trace && test trace
+use Rattle.eventlog.proofs.Laws.{cut_length, cut_total, rises_bound}
 
 pub few_traces : (kept : KeptParts) → length (traces_in kept) ≤ most_traces
 few_traces kept = omega (arith, cut_length 0 kept.ends.now kept.events.now, kept.few)
 
-pub each_trace : {left : List (List ℕ)} (kept : KeptParts) → left ≡ traces_in kept → YieldsList (YieldsFirstRef (λ traces. traces)) (λ (t : Bor (List ℕ)). t.now) left (traces_in kept)
-each_trace kept source = YieldsList-from_first (λ t. t.now) (λ traces. traces) (traces_in kept) source
+pub few_events : (kept : KeptParts) → total (traces_in kept) ≤ most_events
+few_events kept =
+    let ends = kept.ends.now in
+    omega (arith, cut_total 0 ends kept.events.now kept.rise kept.fit, rises_bound 0 ends kept.rise, kept.few)

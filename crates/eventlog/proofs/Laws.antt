@@ -10,6 +10,7 @@ use borrow.Author.Tests.{leb-true, le-leb, eqb-true, eq-eqb}
 use lib.Dec.{leb, ltb, eqb}
 use lib.ListN.{length, take, drop, set, length-append, length-set}
 use Rattle.std.proofs.Common.{take-add}
+use Rattle.std.proofs.Math.Seq.{length-slice}
 use lib.Seq.{slice, length-sets, sets-eq, length-take-le, take-take, take_at, drop_at, take-suc-set}
 use Rattle.std.specs.List.{list_all}
 use Rattle.base.specs.Lists.{equal_lists}
@@ -141,6 +142,16 @@ pub total_append : (xs ys : List (List ℕ)) → total (xs ++ ys) ≡ total xs +
 total_append [] ys = omega arith
 total_append (x ∷ xs) ys = omega (arith, total_append xs ys)
 
+-- what the ends cut off reaches from the first of them to the last
+pub cut_total :
+    (from : ℕ) (ends events : List ℕ) → rising from ends ≡ true → last_from from ends ≤ length events →
+    from + total (cut from ends events) ≡ last_from from ends
+cut_total from [] events h fits = omega arith
+cut_total from (end ∷ ends) events h fits =
+    let r = rising_facts from end ends h in
+    let part = length-slice from end events (omega (arith, rises_on end ends r.rest)) in
+    omega (arith, part, r.above, cut_total end ends events r.rest fits)
+
 pub cut_snoc :
     (from : ℕ) (ends : List ℕ) (end : ℕ) (events : List ℕ) →
     cut from (ends ++ (end ∷ [])) events ≡ cut from ends events ++ (slice (last_from from ends) end events ∷ [])
@@ -192,6 +203,13 @@ pub kept_length : (m : Memory) → sound m ≡ true → length (kept m) ≡ m.st
 unfolding kept
 kept_length m h =
     cut_length 0 (kept_ends m) m.events ∙ length-take-le _ _ (sound_facts m h).has_ends
+
+-- the kept traces reach to the last end
+pub kept_total : (m : Memory) → sound m ≡ true → total (kept m) ≡ last_end m
+unfolding kept last_end
+kept_total m h =
+    let s = sound_facts m h in
+    omega (arith, cut_total 0 (kept_ends m) m.events s.rises s.fits)
 
 -- every kept trace has declared activities alone
 pub kept_declared : (m : Memory) → sound m ≡ true → list_all (all_below m.store.activities) (kept m) ≡ true

@@ -1,7 +1,9 @@
 pub mod Adding
 pub mod Counting
 pub mod Laws
+pub mod Parts
 pub mod Soundness
+pub mod Totals
 pub mod Traces
 pub mod Walks
 pub mod WordBits

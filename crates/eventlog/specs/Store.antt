@@ -1,6 +1,6 @@
 -- The store of traces (document 01: of runs): the traces that it keeps, when it is sound, and the room that is left in it.
 -- Assumes nothing.
-use Rattle.std.specs.Prelude.{ℕ, ◌+◌, Bool, true, ◌&&◌, ◌||◌, List, [], ◌∷◌, eqb, leb, ltb, length, take, map}
+use Rattle.std.specs.Prelude.{ℕ, ◌+◌, ◌*◌, Bool, true, ◌&&◌, ◌||◌, List, [], ◌∷◌, eqb, leb, ltb, length, take, map}
 use Rattle.std.proofs.Math.Seq.{slice}
 use Rattle.base.specs.Lists.{equal_lists}
 use Rattle.declare.specs.Traces.{longest_trace, declarable, all_below}
@@ -43,6 +43,10 @@ kept m = cut 0 (take m.store.traces m.ends) m.events
 abbrev pub total : List (List ℕ) → ℕ
 total [] = 0
 total (trace ∷ traces) = length trace + total traces
+
+-- no sound store keeps more events
+abbrev pub most_events : ℕ
+most_events = longest_trace * most_traces
 
 abbrev pub last_from : ℕ → List ℕ → ℕ
 last_from last [] = last

@@ -16,9 +16,9 @@ pub struct KeptWords<'a> {
 // record.
 #[derive(Clone, Copy)]
 pub struct KeptParts<'a> {
-    pub(crate) events: &'a [u8],
-    pub(crate) ends: &'a [u32],
-    pub(crate) words: &'a [u32],
+    pub events: &'a [u8],
+    pub ends: &'a [u32],
+    pub words: &'a [u32],
     ghost rise: { rising 0 ends.now ≡ true },
     ghost fit: { last_from 0 ends.now ≤ length events.now },
     ghost few: { length ends.now ≤ most_traces },
@@ -29,12 +29,6 @@ impl<'a> KeptParts<'a> {
     ghost use Rattle.std.specs.Prelude.{map};
     ghost use Rattle.eventlog.specs.SoundStore.{traces_in};
     ghost use Rattle.eventlog.specs.Words.{word_of};
-
-    pub fn traces(self) -> KeptTraces<'a>
-        ensures { result ≡ traces_in self.entry }
-    {
-        KeptTraces::cut(self.events, self.ends)
-    }
 
     pub fn words(self) -> KeptWords<'a>
         ensures { result.words.now ≡ map word_of (traces_in self.entry) }

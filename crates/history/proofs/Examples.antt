@@ -18,7 +18,7 @@ use Rattle.eventlog.specs.Calls.{declared_front}
 use Rattle.columns.specs.Log.{lines, log_checks, spelled}
 use Rattle.pruning.specs.declared.Settings.{Settings}
 use Rattle.pruning.specs.Question.{fulfilments, support}
-use Rattle.discovery.specs.Listing.{listed, replayed, layout}
+use Rattle.discovery.specs.Listing.{listed, replayed, events_read, layout}
 use Rattle.discovery.proofs.Orderless.{alike_just_permuted}
 use Rattle.history.specs.Ledger.{Call, open_for, add, read, find, Shown, only, Ledger, first_ledger, next_ledger, room_beside}
 use Rattle.history.specs.Histories.{Called, History, Never1, FindIn, FindAt, ledger_of, ledger_shows, Accepted, AlikeFinds, EqualFinds}
@@ -42,7 +42,7 @@ four =
     []
 
 abbrev pub four_found : Reply
-four_found = gives (4 ∷ 8 ∷ 2 ∷ [])
+four_found = gives (4 ∷ 8 ∷ 2 ∷ 24 ∷ [])
 
 -- ## A history of open, add, a refused add and read, and an accepted find behind it
 
@@ -92,12 +92,12 @@ abbrev pub found : Shown
 found = record { said = four_found; list = four ++ 9 ∷ 9 ∷ [] }
 
 pub finds : Called last (find by_all list) found last
-unfolding sound word_of last_end kept constraints fulfilments support listed replayed layout fulfilled activated holds meanings
+unfolding sound word_of last_end kept constraints fulfilments support listed replayed events_read layout fulfilled activated holds meanings
 finds = (some_outcome, refl)
 
 -- a slice one number too short
 pub too_short : Called last (find by_all (replicate 15 9)) (record { said = refused 10 4; list = replicate 15 9 }) last
-unfolding sound word_of last_end kept constraints fulfilments support listed replayed layout fulfilled activated holds meanings
+unfolding sound word_of last_end kept constraints fulfilments support listed replayed events_read layout fulfilled activated holds meanings
 too_short = (some_outcome, refl)
 
 abbrev pub one : FindIn
@@ -117,7 +117,7 @@ one =
     }
 
 pub is_accepted : Accepted one
-is_accepted = (4 ∷ 8 ∷ 2 ∷ [], refl)
+is_accepted = (4 ∷ 8 ∷ 2 ∷ 24 ∷ [], refl)
 
 -- ## Another: the traces in the other order, an empty one between them, other buffers and another slice
 
@@ -152,7 +152,7 @@ abbrev pub found' : Shown
 found' = record { said = four_found; list = four ++ 3 ∷ [] }
 
 pub finds' : Called last' (find by_all list') found' last'
-unfolding sound word_of last_end kept constraints fulfilments support listed replayed layout fulfilled activated holds meanings
+unfolding sound word_of last_end kept constraints fulfilments support listed replayed events_read layout fulfilled activated holds meanings
 finds' = (some_outcome, refl)
 
 abbrev pub other : FindIn
@@ -218,7 +218,7 @@ are_alike =
     }
 
 pub are_equal : EqualFinds one other
-are_equal = record { listed = 4; replayed = 8; all = 2; said = refl; said' = refl; lists = refl }
+are_equal = record { listed = 4; replayed = 8; all = 2; handed = 24; said = refl; said' = refl; lists = refl }
 
 -- of any two equal finds that list four constraints the numbers and the first sixteen of the lists are equal
 pub equal_fronts :

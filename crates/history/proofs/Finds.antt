@@ -12,10 +12,10 @@ use Rattle.eventlog.specs.declared.Space.{Space}
 use Rattle.declare.specs.declared.constraints.Constraint.{Constraint}
 use Rattle.pruning.specs.declared.Settings.{Settings}
 use Rattle.pruning.specs.Question.{Question, trace_count}
-use Rattle.discovery.specs.Listing.{listed, replayed, numbers, layout}
+use Rattle.discovery.specs.Listing.{listed, replayed, events_read, numbers, layout}
 use Rattle.discovery.specs.Calls.{checks_for}
 use Rattle.discovery.proofs.FindContract.{find_passed}
-use Rattle.discovery.proofs.Listing.{listed_exactly, replayed_exactly, replayed_at_most, layout_length}
+use Rattle.discovery.proofs.Listing.{listed_exactly, replayed_exactly, replayed_at_most, read_at_most, layout_length}
 use Rattle.history.specs.Ledger.{find, Shown, Ledger, question, shows}
 use Rattle.history.specs.Histories.{RightFind}
 
@@ -39,13 +39,14 @@ shows_right lengths l settings list =
       replayed = replayed q;
       kept_by_pruning = replayed_exactly q;
       at_most = replayed_at_most q;
+      read_at_most = read_at_most q (replayed q);
       said = refl;
       written = when_passed_same checks _ _ list (λ none. laid_out q cs list (find_passed q list none).fits);
     }
 
 -- an accepted find gives its numbers, and the list is at the front of its slice
 pub record Gives (q : Question) (shown : Shown) (cs ks : List Constraint) : Type 0 where
-  pub said : shown.said ≡ gives (length cs ∷ length ks ∷ trace_count q ∷ [])
+  pub said : shown.said ≡ gives (length cs ∷ length ks ∷ trace_count q ∷ events_read q ks ∷ [])
   pub front : take (numbers * length cs) shown.list ≡ layout q cs
 
 pub right_gives :
@@ -54,7 +55,7 @@ pub right_gives :
 right_gives q list shown right values given =
     let cs = right.listed in
     let checks = checks_for (length cs) q list in
-    let all = length cs ∷ length right.replayed ∷ trace_count q ∷ [] in
+    let all = length cs ∷ length right.replayed ∷ trace_count q ∷ events_read q right.replayed ∷ [] in
     let passed : reply checks all ≡ gives values = sym right.said ∙ given in
     let new = right.written ∙ given-new checks all values passed (layout q cs ++ drop (numbers * length cs) list) list in
     record {

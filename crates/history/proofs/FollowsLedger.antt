@@ -13,10 +13,10 @@ use Rattle.eventlog.specs.declared.Space.{Space}
 use Rattle.eventlog.specs.Store.{Memory, space}
 use Rattle.declare.specs.declared.constraints.Constraint.{Constraint}
 use Rattle.pruning.specs.Question.{trace_count}
-use Rattle.discovery.specs.Listing.{numbers, layout}
+use Rattle.discovery.specs.Listing.{events_read, numbers, layout}
 use Rattle.declare.specs.Constraints.{Exactly}
 use Rattle.declare.proofs.constraints.Members.{exactly_one}
-use Rattle.discovery.proofs.Orderless.{without_empty, question_over_alike, trace_count_alike, is_listed_alike, survives_alike, layout_alike}
+use Rattle.discovery.proofs.Orderless.{without_empty, question_over_alike, trace_count_alike, is_listed_alike, survives_alike, read_alike, layout_alike}
 use Rattle.history.specs.Ledger.{Call, open_for, add, read, find, Shown, Ledger, first_ledger, next_ledger}
 use Rattle.history.specs.Histories.{Called, Fresh, History, after_all, ledger_after, shows_all, ledger_shows, Never1, Keeps, FindIn, ledger_of, question_of, RightFind, Accepted, AlikeFinds, EqualFinds, FollowsLedger}
 use Rattle.history.proofs.Chains.{find_at}
@@ -92,12 +92,15 @@ found_alike f g (values, given) (values', given') same =
     let same-replayed : r'.replayed ≡ r.replayed =
     exactly_one q'.activities _ r'.replayed r.replayed r'.kept_by_pruning
     (transport (λ i. Exactly (alike.activities i) (survives_alike q q' alike i) r.replayed) r.kept_by_pruning) in
+    let read : events_read q' r'.replayed ≡ events_read q r.replayed =
+    ap (events_read q') same-replayed ∙ sym (read_alike q q' alike r.replayed) in
     record {
       listed = length r.listed;
       replayed = length r.replayed;
       all = trace_count q;
+      handed = events_read q r.replayed;
       said = a.said;
-      said' = b.said ∙ (λ i. gives (length (same-listed i) ∷ length (same-replayed i) ∷ sym (trace_count_alike q q' alike) i ∷ []));
+      said' = b.said ∙ (λ i. gives (length (same-listed i) ∷ length (same-replayed i) ∷ sym (trace_count_alike q q' alike) i ∷ read i ∷ []));
       lists =
           a.front ∙ layout_alike q q' alike r.listed
           ∙ sym (subst (λ (cs : List Constraint). take (numbers * length cs) g.shown.list ≡ layout q' cs) same-listed b.front);

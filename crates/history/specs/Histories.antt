@@ -9,12 +9,12 @@ use Rattle.declare.specs.Constraints.{Exactly}
 use Rattle.declare.specs.Traces.{declarable}
 use Rattle.eventlog.specs.declared.Space.{Space}
 use Rattle.eventlog.specs.declared.Store.{Store}
-use Rattle.eventlog.specs.Store.{Memory, memory, with_store, sound, kept, space, room}
+use Rattle.eventlog.specs.Store.{Memory, memory, with_store, sound, kept, total, space, room}
 use Rattle.eventlog.specs.Calls.{empty, Opens, Adds}
 use Rattle.columns.specs.Calls.{Reads}
 use Rattle.pruning.specs.declared.Settings.{Settings}
 use Rattle.pruning.specs.Question.{Question, trace_count, survives}
-use Rattle.discovery.specs.Listing.{is_listed, numbers, layout}
+use Rattle.discovery.specs.Listing.{is_listed, events_read, numbers, layout}
 use Rattle.discovery.specs.Claims.{Alike}
 use Rattle.discovery.specs.Calls.{checks_for, Finds}
 use Rattle.history.specs.Ledger.{Call, open_for, add, read, find, Shown, Ledger, first_ledger, room_beside, question, next_ledger, shows}
@@ -111,16 +111,18 @@ abbrev pub question_of : {A : Type 0} {Step : StepOf A} → FindBy Step → Ques
 question_of f = question (ledger_of f) f.settings
 
 -- What a find shows. `listed` has exactly the constraints whose count meets the threshold and `replayed` exactly those that pruning
--- keeps, each in the stated order and once. The find is refused as it says, a list too short with the number needed; or it gives the
--- numbers, and the slice has the list laid out at its front, and after it what was there.
+-- keeps, each in the stated order and once; what these read is at most so many times all events. The find is refused as it says, a list too
+-- short with the number needed; or it gives the numbers, and the slice has the list laid out at its front, and after it what was there.
 pub record RightFind (q : Question) (list : List ℕ) (shown : Shown) : Type 0 where
   pub listed : List Constraint
   pub exactly : Exactly q.activities (is_listed q) listed
   pub replayed : List Constraint
   pub kept_by_pruning : Exactly q.activities (survives q) replayed
   pub at_most : length replayed + 6 * q.activities ≤ 14 * q.activities * q.activities
+  pub read_at_most : events_read q replayed ≤ length replayed * total q.traces
   pub said :
-      shown.said ≡ reply (checks_for (length listed) q list) (length listed ∷ length replayed ∷ trace_count q ∷ [])
+      shown.said
+      ≡ reply (checks_for (length listed) q list) (length listed ∷ length replayed ∷ trace_count q ∷ events_read q replayed ∷ [])
   pub written :
       shown.list ≡ when_passed (checks_for (length listed) q list) (layout q listed ++ drop (numbers * length listed) list) list
 
@@ -139,8 +141,9 @@ pub record EqualFinds (f g : FindIn) : Type 0 where
   pub listed : ℕ
   pub replayed : ℕ
   pub all : ℕ
-  pub said : f.shown.said ≡ gives (listed ∷ replayed ∷ all ∷ [])
-  pub said' : g.shown.said ≡ gives (listed ∷ replayed ∷ all ∷ [])
+  pub handed : ℕ
+  pub said : f.shown.said ≡ gives (listed ∷ replayed ∷ all ∷ handed ∷ [])
+  pub said' : g.shown.said ≡ gives (listed ∷ replayed ∷ all ∷ handed ∷ [])
   pub lists : take (numbers * listed) f.shown.list ≡ take (numbers * listed) g.shown.list
 
 -- A find behind the calls `before`: it is from the same start, and what it shows stands at its place among all that was shown.

@@ -5,7 +5,7 @@ use native.Mathlib.Omega.{arith}
 use mathlib.Core.Path.{◌≡◌, refl, sym, ap, ap₂, ◌∙◌}
 use mathlib.Core.Bool.{Bool, true, false, cond, not, ◌&&◌, ◌||◌, and-true, and-false, or-false}
 use mathlib.Core.List.{List, [], ◌∷◌, map}
-use borrow.Author.Tests.{eqb-true, eqb-false, eq-eqb, ne_eqb, lt-ltb, leb-false, lt-leb}
+use borrow.Author.Tests.{eqb-true, eqb-false, eq-eqb, ne_eqb, lt-ltb, leb-false, lt-leb, le-leb}
 use lib.Dec.{eqb, leb}
 use lib.ListN.{length, get_or, set, get_or-append}
 use native.Mathlib.Numerals.{add-one}
@@ -15,11 +15,11 @@ use Rattle.std.specs.Prelude.{drop, bit_and, bit_or, if◌then◌else◌}
 use Rattle.std.specs.Int.{bit_at}
 use Rattle.std.specs.Int.Bits.{or_zero_l, or_self}
 use Rattle.std.specs.List.{filter, list_all, list_any}
-use Rattle.std.proofs.lemmas.Nat.{pow_pos, and_mask, or_comm, le_or_l}
+use Rattle.std.proofs.lemmas.Nat.{pow_pos, and_mask, and_le_r, or_comm, le_or_l}
 use Rattle.std.proofs.lemmas.Nat.Bits.{bit_at-lt, bit_at_and, bit_at_or, same_from_bits, and_pow}
 use Rattle.base.specs.Lists.{non_empty, count, range}
 use Rattle.base.proofs.Bools.{either, and_left, and_right, fails_too}
-use Rattle.base.proofs.Lists.{count_filter, count_map, count_same, range_at, range_length}
+use Rattle.base.proofs.Lists.{count_filter, count_map, count_same, range_at, range_length, all_range}
 use Rattle.declare.specs.declared.constraints.Constraint.{Constraint}
 use Rattle.declare.specs.Traces.{most_activities, all_below}
 use Rattle.declare.specs.Meaning.{occurs}
@@ -31,9 +31,9 @@ use Rattle.pruning.specs.declared.Measure.{Measure}
 use Rattle.pruning.specs.declared.Class.TheVariants.{WithA, All, Either, Both}
 use Rattle.pruning.specs.declared.Settings.{Settings}
 use Rattle.pruning.specs.declared.Frequent.{Frequent}
-use Rattle.pruning.specs.Question.{Question, question_over, measure_of, meets, class_of, counts_for, support, survives_in, survives}
+use Rattle.pruning.specs.Question.{Question, question_over, measure_of, meets, class_of, counts_for, reads, support, survives_in, survives}
 use Rattle.declare.specs.Constraints.{Over}
-use Rattle.pruning.specs.Masks.{some_of, all_of, traces_by, counts_by, support_by, companions_by, pairs_by, frequent_by, paired, survives_by}
+use Rattle.pruning.specs.Masks.{some_of, all_of, traces_by, counts_by, support_by, companions_by, pairs_by, frequent_by, survives_by, bits_of, by_mask, test_for, passes}
 
 -- ## Any masks
 
@@ -87,9 +87,24 @@ all_both word x y = go (all_of (bit_or x y) word) refl
         let of_y = eqb-true (bit_and word y) y (and_right (all_of x word) (all_of y word) both) in
         eq-eqb _ _ (parted word x y ∙ ap₂ bit_or of_x of_y)) h)
 
+-- by comparisons
+module _ (word mask : ℕ) where
+  some_at_least : leb 1 (bit_and word mask) ≡ some_of mask word
+  some_at_least = go (bit_and word mask)
+    where
+      go : (n : ℕ) → leb 1 n ≡ not (eqb n 0)
+      go zero = refl
+      go (suc n) = le-leb 1 (suc n) (omega arith) ∙ sym (ap not (ne_eqb (suc n) 0 (λ same. omega arith)))
+
+  all_at_least : leb mask (bit_and word mask) ≡ all_of mask word
+  all_at_least =
+      either (eqb (bit_and word mask) mask)
+      (λ same. le-leb mask _ (omega (arith, eqb-true _ mask same)) ∙ sym same)
+      (λ other. lt-leb mask _ (omega (arith, and_le_r word mask, eqb-false _ mask other)) ∙ sym other)
+
 -- ## An activity's bit
 
-single : (a : ℕ) → a < most_activities → bit_of a ≡ 2 ^ a
+pub single : (a : ℕ) → a < most_activities → bit_of a ≡ 2 ^ a
 single a low = word_alone a ∙ rw (lt-ltb a most_activities low)
 
 module _ (word a : ℕ) (low : a < most_activities) where
@@ -152,6 +167,23 @@ module _ (trace : List ℕ) (declared : all_below most_activities trace ≡ true
         all_both (word_of trace) (bit_of a) (bit_of b)
         ∙ ap₂ (λ p q. p && q) (all_occurs a low) (all_occurs b low')
         ∙ occurs_in_some (counts_for Both a b) refl trace
+
+    -- the test of words for a class passes those of the traces that it counts
+    passes_counts :
+        (class : Class) → (class ≡ WithA → b ≡ a) → passes (test_for class a b) (word_of trace) ≡ non_empty trace && counts_for class a b trace
+    passes_counts class one = ap (λ mask. passes (by_mask class mask) (word_of trace)) bits ∙ go class one
+      where
+        bits : bits_of a b ≡ bit_or (bit_of a) (bit_of b)
+        bits =
+            let same : a % 32 ≡ a = omega arith in
+            let same' : b % 32 ≡ b = omega arith in
+            ap₂ (λ a b. bit_or (bit_of a) (bit_of b)) same same'
+
+        go : (class : Class) → (class ≡ WithA → b ≡ a) → passes (by_mask class (bit_or (bit_of a) (bit_of b))) (word_of trace) ≡ non_empty trace && counts_for class a b trace
+        go WithA one = some_at_least (word_of trace) _ ∙ ap (λ bits. some_of bits (word_of trace)) (ap (λ b. bit_or (bit_of a) (bit_of b)) (one refl) ∙ or_self (bit_of a)) ∙ counts_trace WithA
+        go All one = some_at_least (word_of trace) 4294967295 ∙ counts_trace All
+        go Either one = some_at_least (word_of trace) (bit_or (bit_of a) (bit_of b)) ∙ counts_trace Either
+        go Both one = all_at_least (word_of trace) (bit_or (bit_of a) (bit_of b)) ∙ counts_trace Both
 
 -- ## All the words
 
@@ -239,7 +271,7 @@ module _ (class : Class) (m : Measure) (words there : List ℕ) where
 module _ (m : Measure) (few : m.activities ≤ most_activities) (words there : List ℕ) where
   paired_frequent :
       (class : Class) (a b : ℕ) → a < m.activities → b < m.activities →
-      paired (pairs_by class m words there) a b ≡ meets m (support_by class words a b)
+      has (b % 32) (get_or (pairs_by class m words there) (a % 32) 0) ≡ meets m (support_by class words a b)
   paired_frequent class a b declared declared' =
       let frequent : ℕ → Bool = λ b. meets m (support_by class words a b) in
       let all : min m.activities most_activities ≡ m.activities = omega arith in
@@ -249,6 +281,9 @@ module _ (m : Measure) (few : m.activities ≤ most_activities) (words there : L
       ∙ ap (has b) (pairs_at class m words there a (omega arith) ∙ ap (λ n. word_of (filter frequent (range 0 n))) all)
       ∙ has_occurs b (filter frequent (range 0 m.activities)) (omega arith)
       ∙ occurs_filtered frequent m.activities b declared'
+
+every_bit : (k : ℕ) → k < 32 → has k 4294967295 ≡ true
+every_bit k low = all_range (λ k. has k 4294967295) 0 32 k refl (omega arith) low
 
 -- ## What pruning keeps
 
@@ -286,7 +321,8 @@ module _ (kept : List (List ℕ)) (declared : list_all (all_below most_activitie
 
   frequent :
       (class : Class) (there : List ℕ) →
-      paired (pairs_by class (measure_of q) words there) c.a c.b ≡ meets (measure_of q) (support_by class words c.a c.b)
+      has (c.b % 32) (get_or (pairs_by class (measure_of q) words there) (c.a % 32) 0)
+      ≡ meets (measure_of q) (support_by class words c.a c.b)
   frequent class there = paired_frequent (measure_of q) few words there class c.a c.b over.a_declared over.b_declared
 
   -- the traces with a or a are those with a
@@ -297,9 +333,17 @@ module _ (kept : List (List ℕ)) (declared : list_all (all_below most_activitie
       ∙ ap (λ b. meets (measure_of q) (count (some_of (bit_or (bit_of c.a) (bit_of b))) words)) one
       ∙ ap (λ bits. meets (measure_of q) (count (some_of bits) words)) (or_self (bit_of c.a))
       ∙ ap (meets (measure_of q)) (counted WithA)
-  by_class All of_template = refl
+  by_class All of_template = every_bit (c.b % 32) (omega arith)
   by_class Either of_template = frequent Either f.either ∙ ap (meets (measure_of q)) (counted Either)
   by_class Both of_template = frequent Both f.both ∙ ap (meets (measure_of q)) (counted Both)
 
   pub survives_counted : {class : Class} → class ≡ class_of c.template → survives_by (frequent_by (measure_of q) words f) class c ≡ survives q c
   survives_counted {class} of_template = by_class class of_template ∙ ap (λ class. survives_in class q c) of_template
+
+-- and the test of words which traces it reads
+pub passes_reads :
+    (n : ℕ) → n ≤ most_activities → (c : Constraint) → Over n c → (trace : List ℕ) → all_below most_activities trace ≡ true →
+    passes (test_for (class_of c.template) c.a c.b) (word_of trace) ≡ reads c trace
+passes_reads n few c over trace declared =
+    passes_counts trace declared c.a c.b (omega (arith, over.a_declared)) (omega (arith, over.b_declared)) (class_of c.template)
+    (λ of_template. sym (eqb-true c.a c.b (rw (one_activity c.template of_template) at over.paired)))

@@ -64,6 +64,11 @@ counts_when Both a_occurs b_occurs = a_occurs && b_occurs
 abbrev pub counts_for : Class → ℕ → ℕ → List ℕ → Bool
 counts_for class a b trace = counts_when class (occurs a trace) (occurs b trace)
 
+-- "A kept rule of the both-class reads only the runs with both steps, of the a-or-b class those with either, of the a class those with a, and
+-- templates 4 to 6 read all non-empty runs"
+abbrev pub reads : Constraint → List ℕ → Bool
+reads c trace = non_empty trace && counts_for (class_of c.template) c.a c.b trace
+
 -- the traces that count for a class, by a constraint's activities
 unfoldable pub support : Class → List (List ℕ) → Constraint → ℕ
 support class traces c = count (counts_for class c.a c.b) traces

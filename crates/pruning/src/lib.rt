@@ -4,11 +4,11 @@
 
 ghost use Rattle.std.specs.Prelude.{◌≡◌, ◌%◌};
 ghost use Rattle.base.specs.Lists.{count};
-ghost use Rattle.eventlog.specs.Words.{has as has_bit};
+ghost use Rattle.eventlog.specs.Words.{bit_of, has as has_bit};
 ghost use Rattle.pruning.specs.Question.{threshold_in_range, meets, class_of};
-ghost use Rattle.pruning.specs.Masks.{just, some_of, traces_by, support_by, companions_by, no_pair, frequent_by, survives_by};
+ghost use Rattle.pruning.specs.Masks.{just, some_of, traces_by, support_by, companions_by, test_for, passes, no_pair, frequent_by, beside_in};
 
-use declare::{Constraint, MOST_ACTIVITIES};
+use declare::MOST_ACTIVITIES;
 use eventlog::KeptWords;
 
 pub const MOST_THRESHOLD: u32 = 1000;
@@ -65,6 +65,45 @@ impl Class {
             9..=10 | 12 | 23..=24 => Class::Either,
             _ => Class::Both,
         }
+    }
+}
+
+// An activity's bit, and no test whether there is one.
+fn bit(activity: u8) -> u32
+    ensures { result ≡ bit_of (activity % 32) }
+{
+    1 << (activity % 32)
+}
+
+// Which traces count for a class, told by their words: what a word has of the mask is at least a number. That is 1 for some of the bits, and the mask
+// for all of them: one comparison, whatever the class.
+#[derive(Clone, Copy)]
+pub struct WordTest {
+    mask: u32,
+    least: u32,
+}
+
+impl WordTest {
+    // By two activities, taken by their remainder by 32. In the class of the traces with a, b is a. The word of a trace of length 1 or more has some
+    // bit.
+    pub fn of(class: Class, a: u8, b: u8) -> WordTest
+        ensures { result ≡ test_for class a b }
+    {
+        let mask = if class == Class::All {
+            u32::MAX
+        } else {
+            bit(a) | bit(b)
+        };
+        WordTest {
+            mask,
+            least: if class == Class::Both { mask } else { 1 },
+        }
+    }
+
+    pub fn passes(self, word: u32) -> bool
+        ensures { result ≡ passes self word }
+    {
+        self.least <= word & self.mask
     }
 }
 
@@ -147,22 +186,22 @@ impl Frequent {
         }
     }
 
-    // Whether pruning keeps a constraint whose template is of this class. In the class of the traces with a, b is a, so these are the traces with
-    // a or b. Activities are taken by their remainder by 32.
-    pub fn survives(&self, c: Constraint, class: Class) -> bool
-        ensures { result ≡ survives_by self.now class c }
+    // The activities with which pruning keeps a constraint on a whose template is of this class, as a word. In the class of the traces with a, b is
+    // a, so these are the traces with a or b. Activities are taken by their remainder by 32.
+    pub fn beside(&self, class: Class, a: u8) -> u32
+        ensures { result ≡ beside_in self.now class a }
     {
-        let pairs = if class == Class::Both {
-            &self.both
-        } else {
-            &self.either
-        };
-        class == Class::All || has(pairs[usize::from(c.a % 32)], c.b)
+        let place = usize::from(a % 32);
+        match class {
+            Class::All => u32::MAX,
+            Class::Both => self.both[place],
+            _ => self.either[place],
+        }
     }
 }
 
 // Whether a word has an activity's bit.
-fn has(word: u32, activity: u8) -> bool
+pub fn has(word: u32, activity: u8) -> bool
     ensures { result ≡ has_bit (activity % 32) word }
 {
     (word >> (activity % 32)) % 2 == 1

@@ -1,72 +1,52 @@
 // Replay of a constraint over the store's traces. Pruning comes to no replayer, and discovery to one through `replay` alone, which requires that
-// the query it is handed keeps the constraint. An automaton is handed out sealed.
+// the query it is handed keeps the constraint.
 #![tactic(auto)]
 
 mod query;
+mod replaying;
 
-ghost use Rattle.std.specs.Prelude.{◌≡◌, true};
-ghost use Rattle.std.specs.List.{filter};
-ghost use Rattle.base.specs.Lists.{non_empty, count};
-ghost use Rattle.eventlog.specs.SoundStore.{traces_in};
+ghost use Rattle.std.specs.Prelude.{◌≡◌};
 ghost use Rattle.replay.specs.Query.{asked_by};
-ghost use Rattle.replay.specs.Replays.{sealed, Replayable, Replays, replays_fulfilled};
+ghost use Rattle.replay.specs.Replays.{Replayable, Replays};
 
 use automata::{Automaton, Moves};
-use declare::{Constraint, Verdict};
-use eventlog::KeptParts;
+use declare::Constraint;
+use pruning::{Class, WordTest};
 pub use query::Query;
+use replaying::Replaying;
 
-// A template's automaton, with which nothing can be done but to hand it to `replay`.
-#[derive(Clone, Copy, Debug, PartialEq, Eq)]
-pub struct SealedAutomaton {
-    automaton: Automaton,
-}
-
-impl SealedAutomaton {
-    pub fn of(template: u8) -> SealedAutomaton
-        ensures { result ≡ sealed template }
-    {
-        SealedAutomaton {
-            automaton: Automaton::of(template),
-        }
-    }
-}
-
-// A constraint's fulfilled traces, and how many constraints have been replayed, this one counted: that has 64 bits, in which one more than
-// any 32-bit number fits.
+// A constraint's fulfilled traces, how many constraints have been replayed, and how many events they have read, this one counted in both. The
+// second has 64 bits, in which one more than any 32-bit number fits.
 #[derive(Clone, Copy, Debug, PartialEq, Eq)]
 pub struct Replayed {
     pub fulfilled: u32,
     pub replayed: u64,
+    pub events_read: u64,
 }
 
-// Whether a trace is fulfilled, by a constraint's moves. An empty trace is handed to no replayer.
-fn is_fulfilled(moves: &Moves, trace: &[u8]) -> bool
-    requires { non_empty trace.now ≡ true }
-    ensures { result ≡ replays_fulfilled moves.now trace.now }
+// Replays a constraint over the store, by its template's class. Only what pruning keeps may be replayed. Its moves and the test
+// of words are made once for all its traces.
+pub fn replay(
+    query: Query,
+    c: Constraint,
+    class: Class,
+    replayed: u32,
+    events_read: u64,
+) -> Replayed
+    requires { Replayable (asked_by query) c class events_read }
+    ensures { Replays (asked_by query.entry) c replayed events_read result }
 {
-    moves.verdict(trace) == Verdict::Fulfilled
-}
-
-// How many traces of length 1 or more are fulfilled, by a constraint's moves. This loop knows nothing of pruning.
-fn fulfilled_by(moves: &Moves, kept: KeptParts) -> u32
-    ensures { result ≡ count (replays_fulfilled moves.now) (filter non_empty (traces_in kept.entry)) }
-{
-    // Added up, and not filtered and counted: a sum makes no jump, and where traces are short that shows.
-    kept.traces()
-        .map(|trace| u32::from(!trace.is_empty() && is_fulfilled(moves, trace)))
-        .sum()
-}
-
-// Replays a constraint over the store, by its template's automaton. Only what pruning keeps may be replayed. The moves are made once for all
-// its traces.
-pub fn replay(query: Query, c: Constraint, automaton: SealedAutomaton, replayed: u32) -> Replayed
-    requires { Replayable (asked_by query) automaton c }
-    ensures { Replays (asked_by query.entry) c replayed result }
-{
-    let moves = automaton.automaton.moves(c.a, c.b);
+    let mut moves = Moves::none();
+    moves.set(Automaton::of(c.template), c.a, c.b);
+    let replaying = Replaying {
+        constraint: c,
+        moves: &moves,
+        test: WordTest::of(class, c.a, c.b),
+    };
+    let all = replaying.over(query, events_read);
     Replayed {
-        fulfilled: fulfilled_by(&moves, query.kept),
+        fulfilled: all.fulfilled,
         replayed: u64::from(replayed) + 1,
+        events_read: all.events_read,
     }
 }

@@ -18,7 +18,7 @@ use Rattle.answers.specs.Answers.{refusal_said}
 use Rattle.declare.specs.Traces.{declarable}
 use Rattle.eventlog.specs.declared.Room.{Room}
 use Rattle.eventlog.specs.Store.{Memory, last_end, sound, room}
-use Rattle.eventlog.proofs.Laws.{fresh_sound, fresh_kept}
+use Rattle.eventlog.proofs.Laws.{sound_facts, fresh_sound, fresh_kept}
 use Rattle.columns.specs.Log.{log_checks, spelled}
 use Rattle.eventlog.specs.Calls.{with_traces}
 use Rattle.columns.specs.Calls.{Reads}
@@ -79,6 +79,7 @@ found_fits m settings list (Err refusal) list' f = omega arith
 pub record Filled (q : Question) (m : Memory) : Type 0 where
   pub is_sound : sound m ≡ true
   pub asks : asked m q.settings ≡ q
+  pub fits : last_end m ≤ lent_space.events
 
 module _ (q : Question) (m : Memory) (f : Filled q m) (checks : List Check) (none : NoneFail checks)
     (list : List ℕ) (room : length list ≡ numbers * lent_constraints) where
@@ -132,6 +133,13 @@ module _ (n : ℕ) (settings : Settings) (log : List ℕ) (declared : declarable
       let g = grown_read fresh log is_sound (rw room_is_lent passed) in
       record {
         is_sound = g.still_sound;
+        fits =
+            omega (
+              arith,
+              (sound_facts filled_store g.still_sound).fits,
+              ap (λ (r : Room). r.space.events) g.room_left,
+              ap (λ (r : Room). r.space.events) room_is_lent,
+            );
         asks = rw (ap (λ (r : Room). r.activities) g.room_left, g.keeps, fresh_kept n arrays.events arrays.ends arrays.words);
       }
 

@@ -18,7 +18,7 @@ use Rattle.answers.specs.declared.Refusal.{Refusal}
 use Rattle.discovery.specs.declared.Found.{Found}
 use Rattle.pruning.specs.declared.Settings.{Settings}
 use Rattle.pruning.specs.Question.{Question, trace_count, fulfilments}
-use Rattle.discovery.specs.Listing.{listed, replayed, numbers, layout}
+use Rattle.discovery.specs.Listing.{listed, replayed, numbers, layout, events_read}
 use Rattle.discovery.specs.Calls.{find_values, with_list}
 use Rattle.discovery.proofs.Listing.{layout_length}
 use Rattle.report.specs.declared.Arrays.{Arrays}
@@ -63,10 +63,11 @@ module _ (checks : List Check) (n : ℕ) (settings : Settings) (log : List ℕ) 
       let needed : found.constraints ≡ length (listed q) = cc in
       let replays : found.replayed ≡ length (replayed q) = cc in
       let traces : found.traces ≡ trace_count q = cc in
+      let read : found.events_read ≡ events_read q (replayed q) = cc in
       let written : arrays'.list ≡ with_list q arrays.list = accepted_leaves o refl in
       let passed = none_fail_reply (then_find checks q) [] (accepted_passes o refl) in
       let same : length arrays'.list ≡ length arrays.list = rw (written, length-sets arrays.list 0 (layout q (listed q))) in
-      rw (passed, written, needed, replays, traces, lines_listed q (listed q) arrays.list (omega arith))
+      rw (passed, written, needed, replays, traces, read, lines_listed q (listed q) arrays.list (omega arith))
   answer_printed (Err refusal) d = rw (refused_same (then_find checks q) (find_values q) [] _ _ (sym d.finds.says))
 
 -- ## The report

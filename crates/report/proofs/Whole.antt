@@ -1,8 +1,8 @@
 -- Each printed number fits its columns: the theorem of specs/Whole.
 -- Assumes nothing.
-use Prim.Native.Nat.{ℕ, zero, suc, ◌+◌, ◌^◌, ◌≤◌, ◌<◌}
+use Prim.Native.Nat.{ℕ, zero, suc, ◌+◌, ◌*◌, ◌^◌, ◌≤◌, ◌<◌}
 use native.Mathlib.Omega.{arith}
-use mathlib.Core.Path.{◌≡◌, ap}
+use mathlib.Core.Path.{◌≡◌, ap, subst}
 use mathlib.Core.Bool.{true}
 use mathlib.Core.List.{List, [], ◌∷◌}
 use borrow.Author.Tests.{ltb-false, not-false}
@@ -14,7 +14,8 @@ use Rattle.base.proofs.Lists.{count_at_most}
 use Rattle.declare.specs.Meaning.{fulfilled}
 use Rattle.declare.specs.Traces.{most_activities, declarable}
 use Rattle.eventlog.specs.declared.Room.{Room}
-use Rattle.eventlog.specs.Store.{kept}
+use native.Mathlib.Nat.{mul-le-mul}
+use Rattle.eventlog.specs.Store.{kept, last_end}
 use Rattle.base.proofs.Ranges.{range_facts}
 use Rattle.eventlog.proofs.Laws.{kept_length, sound_facts}
 use Rattle.columns.specs.Log.{Line, Before, nothing_read, with_line, lines_within, lines, log_checks_from, log_checks, spelled}
@@ -22,9 +23,9 @@ use Rattle.eventlog.specs.Calls.{with_traces}
 use Rattle.declare.specs.declared.constraints.Constraint.{Constraint}
 use Rattle.pruning.specs.declared.Settings.{Settings}
 use Rattle.pruning.specs.Question.{Question, fulfilments}
-use Rattle.discovery.specs.Listing.{listed, replayed}
+use Rattle.discovery.specs.Listing.{listed, replayed, events_read}
 use Rattle.discovery.specs.Calls.{find_checks}
-use Rattle.discovery.proofs.Listing.{listed_exactly, replayed_at_most, listed_within_replayed}
+use Rattle.discovery.proofs.Listing.{listed_exactly, replayed_at_most, read_at_most_last, listed_within_replayed}
 use Rattle.declare.proofs.constraints.Members.{few_numbers}
 use Rattle.report.specs.declared.Arrays.{Arrays}
 use Rattle.report.specs.Print.{number_width, detail_width}
@@ -146,6 +147,15 @@ module _ (n : ℕ) (settings : Settings) (log : List ℕ) (declared : declarable
         ap (λ (q : Question). length q.traces) f.asks,
       )
 
+  read_few : events_read q (replayed q) ≤ length (replayed q) * 6552
+  read_few =
+      let m = with_traces (empty_store n some_arrays) (spelled log) in
+      let f = filled n settings log declared some_arrays buffers none in
+      let most : events_read q (replayed q) ≤ length (replayed q) * last_end m =
+      subst (λ q. events_read q (replayed q) ≤ length (replayed q) * last_end m) f.asks (read_at_most_last m settings f.is_sound) in
+      let same : length (replayed q) ≤ length (replayed q) = omega arith in
+      omega (arith, most, mul-le-mul same f.fits)
+
   fulfilled_few : (c : Constraint) → fulfilments q.traces c ≤ 4095
   unfolding fulfilments
   fulfilled_few c = omega (arith, traces_few, count_at_most (fulfilled c.template c.a c.b) q.traces)
@@ -157,6 +167,7 @@ module _ (n : ℕ) (settings : Settings) (log : List ℕ) (declared : declarable
         constraints = omega (arith, listed_few q high);
         replays = omega (arith, replayed_few q high);
         all = omega (arith, traces_few);
+        read = omega (arith, read_few, replayed_few q high);
         each =
             λ c member.
             let over = (((listed_exactly q).members c).0 member).0 in

@@ -8,7 +8,7 @@ use Rattle.eventlog.specs.Words.{word_of}
 use Rattle.columns.specs.Log.{lines, log_checks, spelled}
 use Rattle.declare.specs.Constraints.{constraints}
 use Rattle.pruning.specs.Question.{fulfilments, support}
-use Rattle.discovery.specs.Listing.{listed, replayed}
+use Rattle.discovery.specs.Listing.{listed, replayed, events_read}
 use Rattle.report.specs.Print.{refusal_line, first_line, constraint_line, found_text}
 use Rattle.report.specs.Report.{most_input, lent_space, lent_constraints, settings_laid_out, activities_set, settings_set, lent_list, left_by, checks_to_read, checks_of_report, output_of}
 
@@ -20,7 +20,8 @@ sample =
 
 pub sample_printed : List ℕ
 sample_printed =
-    32 ∷ 32 ∷ 32 ∷ 32 ∷ 49 ∷ 53 ∷ 32 ∷ 32 ∷ 32 ∷ 32 ∷ 49 ∷ 56 ∷ 32 ∷ 32 ∷ 32 ∷ 32 ∷ 32 ∷ 49 ∷ 10 ∷
+    32 ∷ 32 ∷ 32 ∷ 32 ∷ 49 ∷ 53 ∷ 32 ∷ 32 ∷ 32 ∷ 32 ∷ 49 ∷ 56 ∷ 32 ∷ 32 ∷ 32 ∷ 32 ∷ 32 ∷ 49 ∷
+    32 ∷ 32 ∷ 32 ∷ 32 ∷ 32 ∷ 32 ∷ 32 ∷ 32 ∷ 49 ∷ 56 ∷ 10 ∷
     32 ∷ 49 ∷ 32 ∷ 32 ∷ 48 ∷ 32 ∷ 32 ∷ 32 ∷ 32 ∷ 32 ∷ 32 ∷ 32 ∷ 49 ∷ 10 ∷
     32 ∷ 52 ∷ 32 ∷ 32 ∷ 49 ∷ 32 ∷ 32 ∷ 32 ∷ 32 ∷ 32 ∷ 32 ∷ 32 ∷ 49 ∷ 10 ∷
     32 ∷ 53 ∷ 32 ∷ 32 ∷ 48 ∷ 32 ∷ 32 ∷ 32 ∷ 32 ∷ 32 ∷ 32 ∷ 32 ∷ 49 ∷ 10 ∷
@@ -41,7 +42,7 @@ sample_printed =
 pub sample_prints : output_of sample ≡ sample_printed
 unfolding
     sample sample_printed lent_list output_of checks_of_report checks_to_read settings_laid_out activities_set settings_set found_text
-    first_line constraint_line refusal_line spell lines log_checks spelled constraints fulfilments support listed replayed
+    first_line constraint_line refusal_line spell lines log_checks spelled constraints fulfilments support listed replayed events_read
     fulfilled activated holds meanings
 sample_prints = refl
 
@@ -54,7 +55,7 @@ pub refusals_print :
     × (output_of (32 ∷ 32 ∷ 50 ∷ 49 ∷ 48 ∷ 48 ∷ 48 ∷ 10 ∷ []) ≡ 49 ∷ 49 ∷ 32 ∷ 32 ∷ 32 ∷ 32 ∷ 32 ∷ 48 ∷ 10 ∷ [])
 unfolding
     lent_list output_of checks_of_report checks_to_read settings_laid_out activities_set settings_set found_text
-    first_line constraint_line refusal_line spell lines log_checks spelled constraints fulfilments support listed replayed
+    first_line constraint_line refusal_line spell lines log_checks spelled constraints fulfilments support listed replayed events_read
     fulfilled activated holds meanings
 refusals_print = (refl, refl, refl, refl, refl)
 

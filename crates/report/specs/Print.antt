@@ -4,7 +4,7 @@ use Rattle.std.specs.Prelude.{ℕ, ◌+◌, ◌*◌, List, [], ◌∷◌, ◌++�
 use Rattle.fields.specs.Field.{blank, line_feed, spell}
 use Rattle.base.specs.Lists.{flat_map}
 use Rattle.pruning.specs.Question.{Question, trace_count, fulfilments}
-use Rattle.discovery.specs.Listing.{listed, replayed}
+use Rattle.discovery.specs.Listing.{listed, replayed, events_read}
 
 -- ## A refusal prints its number in columns 1 to 2 and the detail in 3 to 8
 
@@ -20,17 +20,20 @@ refusal_line_size = number_width + detail_width + 1
 unfoldable pub refusal_line : ℕ → ℕ → List ℕ
 refusal_line number detail = spell number_width number ++ spell detail_width detail ++ line_feed ∷ []
 
--- ## The first line is constraints, replayed, traces (6 columns each)
+-- ## The first line is constraints, replayed, traces (6 columns each), and in columns 19 to 28 the events read
 
 abbrev pub first_width : ℕ
 first_width = 6
 
-abbrev pub first_line_size : ℕ
-first_line_size = 3 * first_width + 1
+abbrev pub read_width : ℕ
+read_width = 10
 
-unfoldable pub first_line : ℕ → ℕ → ℕ → List ℕ
-first_line constraints replayed traces =
-    spell first_width constraints ++ spell first_width replayed ++ spell first_width traces ++ line_feed ∷ []
+abbrev pub first_line_size : ℕ
+first_line_size = 3 * first_width + read_width + 1
+
+unfoldable pub first_line : ℕ → ℕ → ℕ → ℕ → List ℕ
+first_line constraints replayed traces read =
+    spell first_width constraints ++ spell first_width replayed ++ spell first_width traces ++ spell read_width read ++ line_feed ∷ []
 
 -- ## Then template (2), a (3), b (3, blank for 1 to 8), count (5)
 
@@ -57,5 +60,5 @@ constraint_line template a b count =
 unfoldable pub found_text : Question → List ℕ
 unfolding first_line constraint_line
 found_text q =
-    first_line (length (listed q)) (length (replayed q)) (trace_count q)
+    first_line (length (listed q)) (length (replayed q)) (trace_count q) (events_read q (replayed q))
     ++ flat_map (listed q) λ c. constraint_line c.template c.a c.b (fulfilments q.traces c)

@@ -43,5 +43,5 @@ Decided input = Decides (checks_to_read input) (activities_set input) (settings_
 -- what is printed of an answer, beside the list that the find wrote
 abbrev pub answer_text : Result Found Refusal → List ℕ → List ℕ
 answer_text (Ok found) list =
-    first_line found.constraints found.replayed found.traces ++ lines_of (first_chunks numbers found.constraints list)
+    first_line found.constraints found.replayed found.traces found.events_read ++ lines_of (first_chunks numbers found.constraints list)
 answer_text (Err refusal) list = refusal_line (reason_number refusal.reason) refusal.detail

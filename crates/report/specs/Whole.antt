@@ -5,8 +5,8 @@ use mathlib.Core.List.{List, [], Mem}
 use Rattle.base.specs.Checks.{gives, refused, reply}
 use Rattle.declare.specs.declared.constraints.Constraint.{Constraint}
 use Rattle.pruning.specs.Question.{Question, trace_count, fulfilments}
-use Rattle.discovery.specs.Listing.{listed, replayed}
-use Rattle.report.specs.Print.{number_width, detail_width, first_width, template_width, activity_width, count_width}
+use Rattle.discovery.specs.Listing.{listed, replayed, events_read}
+use Rattle.report.specs.Print.{number_width, detail_width, first_width, read_width, template_width, activity_width, count_width}
 use Rattle.report.specs.Report.{question_set, checks_of_report}
 
 -- the numbers of the lines of a find
@@ -14,6 +14,7 @@ pub record WholeLines (q : Question) : Type 0 where
   pub constraints : length (listed q) < 10 ^ first_width
   pub replays : length (replayed q) < 10 ^ first_width
   pub all : trace_count q < 10 ^ first_width
+  pub read : events_read q (replayed q) < 10 ^ read_width
   pub each :
       (c : Constraint) → Mem c (listed q) →
       (c.template < 10 ^ template_width) × (c.a < 10 ^ activity_width) × (c.b < 10 ^ activity_width)

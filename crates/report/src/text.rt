@@ -9,8 +9,10 @@ const NUMBER_WIDTH: usize = 2;
 
 const DETAIL_WIDTH: usize = 6;
 
-// The columns of each number of the first line.
+// The columns of each of the first three numbers of the first line, and of the fourth, the events read.
 const FIRST_WIDTH: usize = 6;
+
+const READ_WIDTH: usize = 10;
 
 // The columns of a constraint's line: its template, each of its activities, its count.
 const TEMPLATE_WIDTH: usize = 2;
@@ -20,7 +22,7 @@ const ACTIVITY_WIDTH: usize = 3;
 const COUNT_WIDTH: usize = 5;
 
 // A line's bytes, its line feed among them.
-pub(crate) const FIRST_LINE: usize = 3 * FIRST_WIDTH + 1;
+pub(crate) const FIRST_LINE: usize = 3 * FIRST_WIDTH + READ_WIDTH + 1;
 
 pub(crate) const CONSTRAINT_LINE: usize = TEMPLATE_WIDTH + 2 * ACTIVITY_WIDTH + COUNT_WIDTH + 1;
 
@@ -101,11 +103,12 @@ impl<'a> Text<'a> {
 
     pub(crate) fn put_first(&mut self, found: Found)
         requires { self.old.at + first_line_size ≤ length self.old.out.now }
-        ensures { Adds self.old first_line_size (first_line found.constraints found.replayed found.traces) self.new }
+        ensures { Adds self.old first_line_size (first_line found.constraints found.replayed found.traces found.events_read) self.new }
     {
         self.put_number(FIRST_WIDTH, found.constraints as usize);
         self.put_number(FIRST_WIDTH, found.replayed as usize);
         self.put_number(FIRST_WIDTH, found.traces as usize);
+        self.put_number(READ_WIDTH, found.events_read as usize);
         self.put_line_feed();
     }
 

@@ -3,7 +3,7 @@
 //!
 //!     cargo run --release --bin bench                   times and their ratios
 //!     cargo run --release --bin bench -- watcher        those of the watcher alone
-//!     cargo run --release --bin bench -- instructions   instructions for each event replayed and for each constraint watched, counted
+//!     cargo run --release --bin bench -- instructions   instructions for each event read and for each constraint watched, counted
 //!                                                       by valgrind (of the watcher alone: -- watcher instructions)
 
 use budgieleaf_tests::calls::{Calls, FindAnswer};
@@ -66,6 +66,26 @@ fn log_of(name: &'static str, activities: u32, occurring: u32, traces: usize, le
     Log { name, memory, threshold, roomy: true }
 }
 
+/// Each trace is over so many of the activities, its own: most constraints are asked of few traces.
+fn log_over(name: &'static str, activities: u32, own: usize, traces: usize, length: usize, threshold: u32) -> Log {
+    let mut rng = Rng::new(activities as u64 + traces as u64);
+    let (mut events, mut ends) = (Vec::new(), Vec::new());
+    for _ in 0..traces {
+        let mut occurring: Vec<u8> = Vec::new();
+        while occurring.len() < own {
+            let x = rng.below(activities as usize) as u8;
+            if !occurring.contains(&x) {
+                occurring.push(x);
+            }
+        }
+        events.extend((0..length).map(|i| occurring[(i + rng.below(3)) % own]));
+        ends.push(events.len() as u32);
+    }
+    let words = right_words(&events, &ends);
+    let memory = Memory::of(Record { activities, traces: traces as u32 }, events, ends, words);
+    Log { name, memory, threshold, roomy: true }
+}
+
 fn logs(n: u32) -> Vec<Log> {
     vec![
         log("few long", n, 4, 4096, 1),
@@ -91,6 +111,7 @@ fn counted_logs() -> Vec<Log> {
         log("middling, short list", 16, 50, 40, 500).short_list(),
         log("few long", 32, 1, 400, 1),
         log("one event", 5, 1, 1, 1000),
+        log_over("few of many", 32, 4, 50, 40, 1),
     ]
 }
 
@@ -176,7 +197,8 @@ const GOES: usize = 3;
 
 fn print_times() {
     let automaton = Automaton::new();
-    let logs: Vec<Log> = [5, 16, 32].into_iter().flat_map(logs).collect();
+    let mut logs: Vec<Log> = [5, 16, 32].into_iter().flat_map(logs).collect();
+    logs.push(log_over("few of many", 32, 4, 200, 40, 1));
     let mut best = vec![([f64::MAX; 3], None); logs.len()];
     for _ in 0..GOES {
         for (log, (least, answer)) in logs.iter().zip(&mut best) {
@@ -186,22 +208,39 @@ fn print_times() {
         }
     }
     println!(
-        "{:<20} {:>3} {:>6} {:>6} {:>9} {:>8} {:>10} {:>10} {:>10} {:>10} {:>12}",
-        "log", "N", "traces", "events", "threshold", "replayed", "archive ms", "plain", "library", "to plain", "to library"
+        "{:<20} {:>3} {:>6} {:>6} {:>9} {:>8} {:>12} {:>12} {:>12} {:>10} {:>10} {:>10} {:>10} {:>12}",
+        "log",
+        "N",
+        "traces",
+        "events",
+        "threshold",
+        "replayed",
+        "read",
+        "of replayed",
+        "of all",
+        "archive ms",
+        "plain",
+        "library",
+        "to plain",
+        "to library"
     );
     let mut worst = [0f64; 2];
     let mut long = Vec::new();
     for (log, (t, answer)) in logs.iter().zip(best) {
-        let replayed = answer.unwrap().replayed;
+        let FindAnswer { replayed, events_read, .. } = answer.unwrap();
+        let all = room_for_all(log.memory.record.activities) / NUMBERS;
         let ratios = [t[0] / t[1], t[0] / t[2]];
         println!(
-            "{:<20} {:>3} {:>6} {:>6} {:>9} {:>8} {:>10.4} {:>10.4} {:>10.4} {:>10.2} {:>12.2}",
+            "{:<20} {:>3} {:>6} {:>6} {:>9} {:>8} {:>12} {:>12} {:>12} {:>10.4} {:>10.4} {:>10.4} {:>10.2} {:>12.2}",
             log.name,
             log.memory.record.activities,
             log.memory.record.traces,
             log.events(),
             log.threshold,
             replayed,
+            events_read,
+            replayed as usize * log.events(),
+            all * log.events(),
             t[0] * 1e3,
             t[1] * 1e3,
             t[2] * 1e3,
@@ -232,19 +271,19 @@ fn instructions(function: &str, words: &[&str]) -> u64 {
 
 fn print_instructions() {
     let automaton = Automaton::new();
-    println!("Instructions for each event replayed, with all else that the find does.");
+    println!("Instructions for each event read by a replay, with all else that the find does.");
     println!(
         "{:<20} {:>3} {:>6} {:>6} {:>9} {:>15} {:>8} {:>8} {:>9} {:>10} {:>12}",
-        "log", "N", "traces", "events", "threshold", "events replayed", "archive", "plain", "library", "to plain", "to library"
+        "log", "N", "traces", "events", "threshold", "events read", "archive", "plain", "library", "to plain", "to library"
     );
     for (at, log) in counted_logs().iter().enumerate() {
         let mut list = log.list(&automaton);
         let said = bench_find(2, &automaton, log, &mut list).unwrap();
         let passes = if log.roomy { 1 } else { 2 };
-        let replayed = passes * said.replayed as u64 * log.events() as u64;
+        let read = passes * said.events_read;
         let each = [0, 1, 2].map(|which| {
             let words = ["one", &which.to_string(), &at.to_string(), &list.len().to_string()];
-            instructions("bench_find", &words) as f64 / replayed as f64
+            instructions("bench_find", &words) as f64 / read as f64
         });
         println!(
             "{:<20} {:>3} {:>6} {:>6} {:>9} {:>15} {:>8.1} {:>8.1} {:>9.1} {:>10.2} {:>12.2}",
@@ -253,7 +292,7 @@ fn print_instructions() {
             log.memory.record.traces,
             log.events(),
             log.threshold,
-            replayed,
+            read,
             each[0],
             each[1],
             each[2],

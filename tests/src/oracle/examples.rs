@@ -10,7 +10,7 @@ use crate::calls::Calls;
 use crate::lent::{Memory, Record};
 
 const SAMPLE: &str = concat!(
-    "    15    18     1\n",
+    "    15    18     1        18\n",
     " 1  0       1\n",
     " 4  1       1\n",
     " 5  0       1\n",
@@ -64,14 +64,21 @@ fn starred_row_of_one_empty_trace() {
 fn empty_traces_count_for_nothing() {
     let found = find(1, &[vec![], vec![0], vec![]], 1000);
     let list = vec![[1, 0, 0, 1], [5, 0, 0, 1], [6, 0, 0, 1], [7, 0, 0, 1], [8, 0, 0, 1]];
-    assert_eq!(found, Found { list, replayed: 8, traces: 1 });
+    assert_eq!(found, Found { list, replayed: 8, traces: 1, events_read: 8 });
     assert_eq!(found, find(1, &[vec![0]], 1000));
 }
 
 #[test]
 fn two_traces_list_18_and_replay_44() {
     let found = find(2, &[vec![0, 1], vec![0, 0, 1]], 1000);
-    assert_eq!((found.list.len(), found.replayed, found.traces), (18, 44, 2));
+    assert_eq!((found.list.len(), found.replayed, found.traces, found.events_read), (18, 44, 2, 220));
+}
+
+#[test]
+fn what_does_not_count_is_not_read() {
+    // Of two traces of 1 and 3 events: 10 constraints on an activity, 6 that read all, 7 by either and 21 by both.
+    let found = find(2, &[vec![0], vec![], vec![1, 1, 0]], 1);
+    assert_eq!((found.replayed, found.events_read), (44, 5 * 4 + 5 * 3 + 6 * 4 + 7 * 4 + 21 * 3));
 }
 
 #[test]

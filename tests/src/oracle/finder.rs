@@ -1,6 +1,8 @@
 //! The finder: every constraint over N activities is counted, and pruning decides only the replayed number. So a pruning that
 //! loses a constraint shows as a difference.
 
+use crate::calls::FindAnswer;
+
 use super::templates::{occurs, verdict, Verdict};
 
 /// The numbers that a constraint takes in the list: template, a, b and fulfilled traces.
@@ -67,6 +69,17 @@ fn support(n: u32, traces: &[Vec<u8>]) -> Support {
     }
 }
 
+/// The template's class decides of a trace by whether it has a and whether it has b.
+fn counts(template: u8, a: bool, b: bool) -> bool {
+    match template {
+        4..=6 => true,
+        1..=3 | 7 | 8 => a,
+        9 | 10 | 12 | 23 | 24 => a || b,
+        11 | 13..=22 => a && b,
+        _ => panic!("there are 24 templates"),
+    }
+}
+
 /// What pruning keeps.
 fn is_kept(c: Constraint, s: &Support, threshold: u32, r: usize) -> bool {
     let (a, b) = (c.a as usize, c.b as usize);
@@ -86,6 +99,16 @@ pub struct Found {
     pub replayed: u32,
     /// R.
     pub traces: u32,
+    /// How many events replay reads: each kept constraint those of the traces that count for its class.
+    pub events_read: u64,
+}
+
+impl Found {
+    /// The numbers of it.
+    pub fn answer(&self) -> FindAnswer {
+        let Found { replayed, traces, events_read, .. } = *self;
+        FindAnswer { listed: self.list.len() as u32, replayed, traces, events_read }
+    }
 }
 
 /// R, all counts and the pruning numbers are taken over the kept traces of length 1 or more.
@@ -100,6 +123,9 @@ pub fn find(n: u32, kept: &[Vec<u8>], threshold: u32) -> Found {
         .filter(|&(_, k)| meets(k, threshold, r))
         .map(|(c, k)| [c.template as u16, c.a as u16, c.b as u16, k as u16])
         .collect();
-    let replayed = all.iter().filter(|&&c| is_kept(c, &s, threshold, r)).count() as u32;
-    Found { list, replayed, traces: r as u32 }
+    let kept: Vec<Constraint> = all.iter().copied().filter(|&c| is_kept(c, &s, threshold, r)).collect();
+    let read_by =
+        |c: Constraint| -> usize { traces.iter().filter(|w| counts(c.template, occurs(w, c.a), occurs(w, c.b))).map(|w| w.len()).sum() };
+    let events_read = kept.iter().map(|&c| read_by(c) as u64).sum();
+    Found { list, replayed: kept.len() as u32, traces: r as u32, events_read }
 }

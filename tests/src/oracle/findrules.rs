@@ -37,6 +37,7 @@ fn printed(found: &Found) -> String {
     for number in [found.list.len() as u32, found.replayed, found.traces] {
         out += &justified(number, 6);
     }
+    out += &format!("{:>10}", found.events_read);
     out.push('\n');
     for &[template, a, b, count] in &found.list {
         let second = if template <= 8 { "   ".to_string() } else { justified(b as u32, 3) };

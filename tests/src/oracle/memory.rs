@@ -89,7 +89,7 @@ impl Calls for Model {
         }
         let found = kept(memory).find(threshold, list.len())?;
         lay_out(&found, list);
-        Ok(FindAnswer { listed: found.list.len() as u32, replayed: found.replayed, traces: found.traces })
+        Ok(found.answer())
     }
 }
 

@@ -1,36 +1,45 @@
 -- Passing over constraints, one after the other.
 -- Assumes nothing.
-use Prim.Native.Nat.{ℕ, ◌+◌, ◌*◌, ◌≤◌}
+use Prim.Native.Nat.{ℕ, ◌+◌, ◌*◌, ◌≤◌, ◌<◌}
 use mathlib.Core.Path.{◌≡◌, refl, sym, ap, subst, ◌∙◌}
 use mathlib.Core.Bool.{Bool, true, false, cond}
 use mathlib.Core.List.Memᴰ
-use mathlib.Core.List.{List, [], ◌∷◌, ◌++◌, append_assoc, append-nil, Memᴰ}
+use mathlib.Core.List.{List, [], ◌∷◌, ◌++◌, append_assoc, append-nil, map, Memᴰ}
 use native.Mathlib.Omega.{arith}
 use lib.ListN.{length, length-append}
 use lib.Seq.{sets}
+use native.Mathlib.Nat.{mul-le-mul}
 use Rattle.std.specs.List.{filter}
-use Rattle.base.specs.Lists.{non_empty}
+use Rattle.base.specs.Lists.{non_empty, count}
 use Rattle.base.proofs.Lists.{filter_append, count_append, count_at_most, flat_map_append}
 use Rattle.base.proofs.Stores.{sets_append}
 use Rattle.declare.specs.declared.constraints.Constraint.{Constraint}
 use Rattle.declare.specs.Meaning.{fulfilled}
+use Rattle.declare.specs.Traces.{most_activities}
 use Rattle.declare.specs.Constraints.{constraints, Over}
-use Rattle.declare.proofs.constraints.Members.{constraints_number, constraints_over}
-use Rattle.eventlog.specs.Store.{most_traces}
+use Rattle.declare.proofs.constraints.Members.{constraints_number, constraints_over, few_numbers}
+use Rattle.eventlog.specs.Store.{most_traces, most_events, total}
 use Rattle.eventlog.specs.SoundStore.{traces_in}
-use Rattle.eventlog.proofs.Counting.{few_traces}
+use Rattle.eventlog.proofs.Counting.{few_traces, few_events}
+use Rattle.eventlog.proofs.Laws.{total_append}
+use Rattle.eventlog.proofs.Totals.{total_at_most}
 use Rattle.replay.specs.declared.query.Query.{Query}
 use Rattle.replay.specs.Query.{asked_by}
 use Rattle.discovery.specs.declared.list.Tally.{Tally}
 use Rattle.pruning.specs.declared.Measure.{Measure}
-use Rattle.pruning.specs.Question.{Question, measure_of, fulfilments, survives}
+use Rattle.pruning.specs.Question.{Question, measure_of, class_of, reads, fulfilments, survives}
+use Rattle.pruning.specs.declared.Frequent.{Frequent}
+use Rattle.pruning.specs.Masks.{frequent_by, survives_by}
+use Rattle.eventlog.specs.Words.{word_of}
+use Rattle.replay.proofs.Querying.{survives_asked}
+use Rattle.discovery.specs.declared.walk.Walk.{Walk}
 use Rattle.discovery.specs.declared.row.Counts.{Counts}
-use Rattle.discovery.specs.Listing.{lists, numbers, row, rows, is_listed}
+use Rattle.discovery.specs.Listing.{lists, numbers, row, rows, is_listed, events_read}
 use Rattle.replay.specs.declared.Replayed.{Replayed}
 use Rattle.replay.specs.Replays.{Replays}
 use Rattle.discovery.specs.Passes.{Passes, Considers, TallyFits, none_yet}
 use Rattle.pruning.proofs.Pruning.{pruned_falls_short}
-use Rattle.discovery.proofs.Listing.{rows_length}
+use Rattle.discovery.proofs.Listing.{rows_length, read_append, read_at_most}
 
 -- the fulfilled traces are few
 pub fulfilments_few : (query : Query) (c : Constraint) → fulfilments (asked_by query).traces c ≤ most_traces
@@ -44,9 +53,22 @@ fulfilments_few query c =
       few_traces query.kept,
     )
 
+-- the events are few
+pub events_few : (query : Query) → total (asked_by query).traces ≤ most_events
+events_few query = omega (arith, total_at_most non_empty (traces_in query.kept), few_events query.kept)
+
 module _ (counts : Constraint → Counts) where
   rows_append : (cs ds : List Constraint) → rows counts (cs ++ ds) ≡ rows counts cs ++ rows counts ds
   rows_append cs ds = flat_map_append _ cs ds
+
+-- the walk says of its constraint what the question does
+pub walk_survives :
+    {words : List ℕ} {c : Constraint} (query : Query) (walk : Walk) (there : Frequent) → Over query.measure.activities c → walk.constraint ≡ c →
+    walk.frequent.now ≡ frequent_by query.measure words there → words ≡ map word_of (traces_in query.kept) →
+    survives_by walk.frequent.now walk.class walk.constraint ≡ survives (asked_by query) c
+walk_survives {c = c} query walk there over same counted of_words =
+    ap (survives_by walk.frequent.now walk.class) same
+    ∙ survives_asked query there c over counted of_words (walk.classed ∙ ap (λ (c : Constraint). class_of c.template) same)
 
 -- ## Passing over constraints of any counts
 
@@ -101,20 +123,29 @@ passes_one {m} {counts} {c} p = omega (arith, p.listed, count_at_most (λ c. lis
 
 module _ {q : Question} where
   pub considers_none : {t : Tally} {list : List ℕ} → Considers q [] t list t list
-  considers_none = record { passes = passes_none; replayed = omega arith }
+  unfolding events_read
+  considers_none = record { passes = passes_none; replayed = omega arith; read = omega arith }
 
   module _ {c : Constraint} {t : Tally} {list : List ℕ} where
     pub considers_pruned : survives q c ≡ false → Considers q (c ∷ []) t list t list
-    considers_pruned pruned = record { passes = passes_unlisted (pruned_falls_short q c pruned); replayed = rw pruned (omega arith) }
+    unfolding events_read
+    considers_pruned pruned =
+        record {
+          passes = passes_unlisted (pruned_falls_short q c pruned);
+          replayed = rw pruned (omega arith);
+          read = rw pruned (omega arith);
+        }
 
     pub considers_kept :
-        {r : Replayed} {t' : Tally} {list' : List ℕ} → Replays q c t.replayed r → survives q c ≡ true →
+        {r : Replayed} {t' : Tally} {list' : List ℕ} → Replays q c t.replayed t.events_read r → survives q c ≡ true →
         Passes (measure_of q) (λ c. record { fulfilled = r.fulfilled }) (c ∷ []) t.listed list t'.listed list' → t'.replayed ≡ r.replayed →
-        Considers q (c ∷ []) t list t' list'
-    considers_kept replays kept p counted =
+        t'.events_read ≡ r.events_read → Considers q (c ∷ []) t list t' list'
+    unfolding events_read
+    considers_kept replays kept p counted read =
         record {
           passes = passes_by (ap (λ (n : ℕ). record { fulfilled = n }) replays.fulfilled) p;
           replayed = rw kept (counted ∙ replays.counted);
+          read = rw kept (omega (arith, read, replays.read, total_append (filter (reads c) q.traces) []));
         }
 
   considers_append :
@@ -124,6 +155,7 @@ module _ {q : Question} where
       record {
         passes = passes_append p.passes p'.passes;
         replayed = omega (arith, p.replayed, p'.replayed, count_append (survives q) cs ds);
+        read = omega (arith, p.read, p'.read, read_append q (filter (survives q) cs) (filter (survives q) ds), ap (events_read q) (filter_append (survives q) cs ds));
       }
 
 -- ## On the way: some constraints are passed, and the rest are left
@@ -134,14 +166,22 @@ pub record Passing (q : Question) (list : List ℕ) (passed rest : List Constrai
 
 module _ {q : Question} {list : List ℕ} {passed left : List Constraint} {t : Tally} {list' : List ℕ} (p : Passing q list passed left t list') where
   -- no more are listed and replayed than all
-  pub passing_few : TallyFits q.activities t
-  passing_few =
+  pub passing_few : total q.traces ≤ most_events → TallyFits q.activities t
+  passing_few few =
       let all = ap length p.all in
       let number = constraints_number q.activities in
+      let same : count (survives q) passed ≤ count (survives q) passed = omega arith in
       record {
         listed = omega (arith, p.so_far.passes.listed, count_at_most (is_listed q) passed, length-append passed left, all, number);
+        read = omega (arith, p.so_far.read, p.so_far.replayed, read_at_most q (filter (survives q) passed), mul-le-mul same few);
         replayed = omega (arith, p.so_far.replayed, count_at_most (survives q) passed, length-append passed left, all, number);
       }
+
+  -- what the next one reads can be added
+  pub passing_fits : total q.traces ≤ most_events → q.activities ≤ most_activities → t.events_read + most_events < 18446744073709551616
+  passing_fits few few_activities =
+      let fits = passing_few few in
+      omega (arith, fits.read, few_numbers q.activities t.replayed few_activities fits.replayed)
 
   pub passing_done : left ≡ [] → Considers q (constraints q.activities) none_yet list t list'
   passing_done none = rw (← p.all, none, append-nil) p.so_far

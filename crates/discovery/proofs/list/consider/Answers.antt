@@ -19,4 +19,4 @@ overflow_cast-result-2 c =
     omega (arith, c.replay-replayed.ensures.counted, few)
 
 pub returns : goal.returns
-returns c = considers_kept c.replay-replayed.ensures c.requires.replayable.survived (rw (measured c.args.query) at c.enter.ensures) refl
+returns c = considers_kept c.replay-replayed.ensures c.requires.replayable.survived (rw (measured c.args.query) at c.enter.ensures) refl refl

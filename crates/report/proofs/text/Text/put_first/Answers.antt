@@ -5,4 +5,5 @@ use Rattle.report.proofs.text.Text.put_first.Goals as goal
 
 pub returns : goal.returns
 unfolding first_line
-returns c = add_then (add_then (add_then c.put_number.ensures c.put_number-2.ensures) c.put_number-3.ensures) c.put_line_feed.ensures
+returns c =
+    add_then (add_then (add_then (add_then c.put_number.ensures c.put_number-2.ensures) c.put_number-3.ensures) c.put_number-4.ensures) c.put_line_feed.ensures
