@@ -138,10 +138,11 @@ unfoldable pub verdicts_word : ℕ → ℕ
 unfolding state_verdicts
 verdicts_word template = packed state_verdicts (8 * (template - 1)) 1 1 8
 
--- of no template: it stays in state 0, not activated
+-- moves before any automaton is set in them
 abbrev pub no_moves : Moves
 no_moves = record { to = replicate 32 0; verdicts = 0 }
 
+-- of no template: it stays in state 0, not activated
 abbrev pub no_automaton : Automaton
 no_automaton = record { a = 0; b = 0; other = 0; verdicts = 1 }
 

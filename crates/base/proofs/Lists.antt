@@ -199,6 +199,16 @@ module _ {A : Type 0} (p : A → Bool) where
   filter_all (x ∷ xs) h =
       rw (and_left (p x) (all p xs) h) (ap (λ (l : List A). x ∷ l) (filter_all xs (and_right (p x) (all p xs) h)))
 
+  pub filter_none : (xs : List A) → ((x : A) → Memᴰ x xs → p x ≡ false) → filter p xs ≡ []
+  filter_none [] none = refl
+  filter_none (x ∷ xs) none = rw (none x (Memᴰ.head refl)) (filter_none xs (λ y there. none y (Memᴰ.tail there)))
+
+  -- a test that agrees on all of them
+  pub filter_same : (q : A → Bool) (xs : List A) → ((x : A) → Memᴰ x xs → p x ≡ q x) → filter p xs ≡ filter q xs
+  filter_same q [] same = refl
+  filter_same q (x ∷ xs) same =
+      rw (same x (Memᴰ.head refl)) (ap (λ (ys : List A). cond (q x) (x ∷ ys) ys) (filter_same q xs (λ y there. same y (Memᴰ.tail there))))
+
   pub filter_append : (xs ys : List A) → filter p (xs ++ ys) ≡ filter p xs ++ filter p ys
   filter_append [] ys = refl
   filter_append (x ∷ xs) ys = go (p x) (filter_append xs ys)

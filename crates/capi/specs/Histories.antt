@@ -77,7 +77,7 @@ pub record RightFromC (f : FindFromC) : Type 0 where
   pub right : RightFind (question_of f) f.list shown
   pub told : f.shown ≡ in_numbers (find f.settings f.list) shown
 
--- two finds give equal lists and numbers
+-- two finds give equal lists and numbers, the four of `EqualFinds`
 pub record EqualFromC (f g : FindFromC) : Type 0 where
   pub listed : ℕ
   pub replayed : ℕ

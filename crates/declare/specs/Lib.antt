@@ -1,4 +1,3 @@
 pub mod Traces
 pub mod Meaning
 pub mod Constraints
-pub mod Walk

@@ -1,5 +1,5 @@
 // Activities and traces (document 01: steps and runs), and what the DECLARE templates mean on one trace. The constraints of all
-// templates, and the walk over them, are in a module that is public so that other crates can cite the laws below it.
+// templates are in a module that is public so that other crates can cite the laws below it.
 #![tactic(auto)]
 
 pub mod constraints;
@@ -7,7 +7,7 @@ pub mod constraints;
 ghost use Rattle.std.specs.Prelude.{◌≡◌};
 ghost use Rattle.declare.specs.Traces.{declarable as declarable_test};
 
-pub use constraints::{Constraint, Constraints, constraint_count};
+pub use constraints::{Constraint, constraint_count};
 
 pub const MOST_ACTIVITIES: u32 = 32;
 

@@ -3,7 +3,6 @@
 
 mod list;
 mod row;
-mod walk;
 
 ghost use Rattle.eventlog.specs.Store.{lent};
 ghost use Rattle.discovery.specs.Calls.{Finds, find_said};

@@ -7,10 +7,9 @@ ghost use Rattle.replay.specs.Replays.{Replayable};
 ghost use Rattle.discovery.specs.Passes.{Passes, Considers, TallyFits, none_yet, fit_of};
 
 use crate::row::{Counts, NUMBERS, write};
-use crate::walk::Walk;
 use answers::{Reason, Refusal};
-use declare::{Constraint, Constraints};
-use pruning::{Frequent, Measure};
+use declare::Constraint;
+use pruning::{Frequent, Measure, Walk};
 use replay::{Query, replay};
 
 // How many constraints so far are listed, how many were replayed, and how many events they have read.
@@ -34,13 +33,12 @@ fn enter(measure: Measure, c: Constraint, counts: Counts, listed: u32, list: &mu
 }
 
 // Passes over a constraint that pruning keeps: it is replayed, and entered with its counts.
-fn consider(query: Query, walk: Walk, tally: Tally, list: &mut [u16]) -> Tally
-    requires replayable { Replayable (asked_by query) walk.constraint walk.class tally.events_read }
+fn consider(query: Query, c: Constraint, tally: Tally, list: &mut [u16]) -> Tally
+    requires replayable { Replayable (asked_by query) c tally.events_read }
     requires tally_fits { TallyFits query.measure.activities tally }
-    ensures { Considers (asked_by query.entry) (walk.entry.constraint ∷ []) tally list.old result list.new }
+    ensures { Considers (asked_by query.entry) (c ∷ []) tally list.old result list.new }
 {
-    let c = walk.constraint;
-    let replayed = replay(query, c, walk.class, tally.replayed, tally.events_read);
+    let replayed = replay(query, c, tally.replayed, tally.events_read);
     let counts = Counts {
         fulfilled: replayed.fulfilled as u16,
     };
@@ -52,7 +50,7 @@ fn consider(query: Query, walk: Walk, tally: Tally, list: &mut [u16]) -> Tally
 }
 
 // Passes over all constraints in their order: counts those listed and replayed, and writes the list as far as the slice goes. What pruning
-// drops is not replayed.
+// drops is not replayed, and not gone over.
 pub(crate) fn pass(query: Query, list: &mut [u16]) -> Tally
     ensures { Considers (asked_by query.entry) (constraints query.entry.measure.activities) none_yet list.old result list.new }
 {
@@ -63,12 +61,8 @@ pub(crate) fn pass(query: Query, list: &mut [u16]) -> Tally
     };
     let mut frequent = Frequent::none();
     frequent.count(query.measure, query.kept.words());
-    let mut walk = Walk::new(&frequent);
-    for c in Constraints::over(query.measure.activities as u8) {
-        walk = walk.on_to(c);
-        if walk.survives() {
-            tally = consider(query, walk, tally, list);
-        }
+    for c in Walk::over(query.measure.activities as u8, &frequent) {
+        tally = consider(query, c, tally, list);
     }
     tally
 }

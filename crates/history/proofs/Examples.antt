@@ -1,11 +1,11 @@
 -- Two histories beside buffers that are not empty, and the finds in which they end, accepted and alike: all is computed.
 -- Assumes nothing.
-use Prim.Native.Nat.{ℕ, ◌*◌}
+use Prim.Native.Nat.{ℕ, ◌*◌, ◌≤◌}
 use mathlib.Core.Path.{◌≡◌, refl, sym, ap, subst, ◌∙◌}
 use mathlib.Core.Option.{Option, none, some}
 use native.Mathlib.Omega.{arith}
 use mathlib.Core.List.{List, [], ◌∷◌, ◌++◌, Permᴰ}
-use lib.ListN.{take, replicate}
+use lib.ListN.{length, take, replicate}
 use Rattle.base.specs.Checks.{Reply, gives, refused}
 use Rattle.base.proofs.Outcomes.{some_outcome}
 use Rattle.declare.specs.Meaning.{meanings, holds, activated, fulfilled}
@@ -17,11 +17,12 @@ use Rattle.eventlog.specs.Words.{word_of}
 use Rattle.eventlog.specs.Calls.{declared_front}
 use Rattle.columns.specs.Log.{lines, log_checks, spelled}
 use Rattle.pruning.specs.declared.Settings.{Settings}
-use Rattle.pruning.specs.Question.{fulfilments, support}
+use Rattle.pruning.specs.Question.{Question, asked, fulfilments, support}
 use Rattle.discovery.specs.Listing.{listed, replayed, events_read, layout}
+use Rattle.discovery.specs.Claims.{ReadAtMost}
 use Rattle.discovery.proofs.Orderless.{alike_just_permuted}
-use Rattle.history.specs.Ledger.{Call, open_for, add, read, find, Shown, only, Ledger, first_ledger, next_ledger, room_beside}
-use Rattle.history.specs.Histories.{Called, History, Never1, FindIn, FindAt, ledger_of, ledger_shows, Accepted, AlikeFinds, EqualFinds}
+use Rattle.history.specs.Ledger.{Call, open_for, add, read, find, Shown, only, Ledger, first_ledger, next_ledger, question, room_beside}
+use Rattle.history.specs.Histories.{Called, History, Never1, FindIn, FindAt, ledger_of, ledger_shows, Accepted, RightFind, AlikeFinds, EqualFinds}
 use Rattle.history.proofs.Existence.{histories_exist}
 
 -- one activity declared, and so many traces kept
@@ -240,6 +241,20 @@ never_1_says = ((λ detail e. refused_apart e, tt), λ n. n.0 0 refl)
 
     refused_apart : {detail : ℕ} → refused 2 0 ≡ refused 1 detail → ⊥
     refused_apart e = omega (arith, ap number e)
+
+-- of the traces 0 and 0 0 at most eight constraints are replayed, and each reads three events at most
+abbrev both : Question
+both = question (record { activities = 1; traces = (0 ∷ []) ∷ (0 ∷ 0 ∷ []) ∷ [] }) by_all
+
+right_is_bounded :
+    {slice : List ℕ} {found : Shown} → (r : RightFind both slice found) →
+    (length r.replayed ≤ 8) × (events_read both r.replayed ≤ length r.replayed * 3)
+right_is_bounded r = (omega (arith, r.at_most), r.read_at_most)
+
+-- the last end of what is kept is 3
+last_is_bounded : ReadAtMost → events_read (asked last by_all) (replayed (asked last by_all)) ≤ length (replayed (asked last by_all)) * 3
+unfolding sound word_of last_end kept
+last_is_bounded most = most last by_all refl
 
 -- a find at a place is what was shown there
 shown_there : (a : FindAt Called start calls by_all list (shown ++ found ∷ [])) → a.found.shown ≡ found

@@ -136,7 +136,8 @@ pub record AlikeFinds {A : Type 0} {Step : StepOf A} (f g : FindBy Step) : Type 
   pub settings : f.settings ≡ g.settings
   pub traces : Alike (ledger_of f).traces (ledger_of g).traces
 
--- two finds give equal lists and numbers
+-- two finds give equal lists and numbers: those of constraints listed and replayed, of traces of length 1 or more, and of events handed to
+-- replayers
 pub record EqualFinds (f g : FindIn) : Type 0 where
   pub listed : ℕ
   pub replayed : ℕ

@@ -1,2 +1,3 @@
 pub mod Masks
 pub mod Pruning
+pub mod Walking

@@ -1,2 +1,3 @@
 pub mod Masks
 pub mod Question
+pub mod Walk

@@ -1,11 +1,12 @@
 -- What is counted from words alone (document 02: support is counted without reading steps). Nothing here has to be believed: proofs/Masks.antt
 -- shows that over the words of traces it comes to R, support and what pruning keeps.
 -- Assumes nothing.
-use Rattle.std.specs.Prelude.{ℕ, ◌%◌, min, Bool, not, leb, List, ◌++◌, eqb, get_or, map, drop, replicate, bit_and, bit_or}
+use Rattle.std.specs.Prelude.{ℕ, ◌%◌, ◌<◌, ◌≡◌, min, Bool, not, ◌&&◌, leb, ltb, List, ◌++◌, eqb, get_or, map, drop, replicate, bit_and, bit_or}
 use Rattle.std.specs.List.{filter}
 use Rattle.base.specs.Lists.{count, range}
 use Rattle.declare.specs.Traces.{most_activities}
 use Rattle.declare.specs.declared.constraints.Constraint.{Constraint}
+use Rattle.declare.specs.Constraints.{pairs}
 use Rattle.eventlog.specs.Words.{word_of, bit_of, has}
 use Rattle.pruning.specs.declared.Measure.{Measure}
 use Rattle.pruning.specs.declared.Class.{Class}
@@ -83,3 +84,7 @@ beside_in f Both a = get_or f.both (a % 32) 0
 
 abbrev pub survives_by : Frequent → Class → Constraint → Bool
 survives_by f class c = has (c.b % 32) (beside_in f class c.a)
+
+-- the activities that a template takes beside an a, as a word
+abbrev pub Partners : ℕ → ℕ → ℕ → ℕ → Type 0
+Partners n template a word = (b : ℕ) → b < most_activities → has b word ≡ ltb b n && pairs template a b

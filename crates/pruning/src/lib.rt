@@ -2,14 +2,17 @@
 // here.
 #![tactic(auto)]
 
+mod walk;
+
 ghost use Rattle.std.specs.Prelude.{◌≡◌, ◌%◌};
 ghost use Rattle.base.specs.Lists.{count};
-ghost use Rattle.eventlog.specs.Words.{bit_of, has as has_bit};
+ghost use Rattle.eventlog.specs.Words.{bit_of};
 ghost use Rattle.pruning.specs.Question.{threshold_in_range, meets, class_of};
 ghost use Rattle.pruning.specs.Masks.{just, some_of, traces_by, support_by, companions_by, test_for, passes, no_pair, frequent_by, beside_in};
 
 use declare::MOST_ACTIVITIES;
 use eventlog::KeptWords;
+pub use walk::Walk;
 
 pub const MOST_THRESHOLD: u32 = 1000;
 
@@ -198,11 +201,4 @@ impl Frequent {
             _ => self.either[place],
         }
     }
-}
-
-// Whether a word has an activity's bit.
-pub fn has(word: u32, activity: u8) -> bool
-    ensures { result ≡ has_bit (activity % 32) word }
-{
-    (word >> (activity % 32)) % 2 == 1
 }

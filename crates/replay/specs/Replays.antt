@@ -9,8 +9,7 @@ use Rattle.declare.specs.Constraints.{Over}
 use Rattle.automata.specs.declared.Moves.{Moves}
 use Rattle.automata.specs.Automata.{automaton, moves_of, start, advance_all, verdict_by}
 use Rattle.eventlog.specs.Store.{most_events, total}
-use Rattle.pruning.specs.declared.Class.{Class}
-use Rattle.pruning.specs.Question.{Question, class_of, reads, fulfilments, survives}
+use Rattle.pruning.specs.Question.{Question, reads, fulfilments, survives}
 use Rattle.replay.specs.declared.Replayed.{Replayed}
 use Rattle.replay.specs.declared.replaying.OfTrace.{OfTrace}
 
@@ -18,12 +17,11 @@ use Rattle.replay.specs.declared.replaying.OfTrace.{OfTrace}
 abbrev pub moves_for : Constraint → Moves
 moves_for c = record { to = moves_of (automaton c.template) c.a c.b; verdicts = (automaton c.template).verdicts }
 
--- A constraint over the declared activities that pruning keeps, beside its template's class. The events that it reads, no more than
--- a store keeps, can be added to those read before it.
-pub record Replayable (q : Question) (c : Constraint) (class : Class) (events_read : ℕ) : Type 0 where
+-- A constraint over the declared activities that pruning keeps. The events that it reads, no more than a store keeps, can be added to those
+-- read before it.
+pub record Replayable (q : Question) (c : Constraint) (events_read : ℕ) : Type 0 where
   pub over : Over q.activities c
   pub survived : survives q c ≡ true
-  pub of_class : class ≡ class_of c.template
   pub fits : events_read + most_events < 18446744073709551616
 
 -- "The function that replays a rule over the store requires that the rule is kept, and hands back its fulfilled runs and the replayed number

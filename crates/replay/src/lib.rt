@@ -24,16 +24,9 @@ pub struct Replayed {
     pub events_read: u64,
 }
 
-// Replays a constraint over the store, by its template's class. Only what pruning keeps may be replayed. Its moves and the test
-// of words are made once for all its traces.
-pub fn replay(
-    query: Query,
-    c: Constraint,
-    class: Class,
-    replayed: u32,
-    events_read: u64,
-) -> Replayed
-    requires { Replayable (asked_by query) c class events_read }
+// Replays a constraint over the store. Only what pruning keeps may be replayed. Its moves and the test of words are made once for all its traces.
+pub fn replay(query: Query, c: Constraint, replayed: u32, events_read: u64) -> Replayed
+    requires { Replayable (asked_by query) c events_read }
     ensures { Replays (asked_by query.entry) c replayed events_read result }
 {
     let mut moves = Moves::none();
@@ -41,7 +34,7 @@ pub fn replay(
     let replaying = Replaying {
         constraint: c,
         moves: &moves,
-        test: WordTest::of(class, c.a, c.b),
+        test: WordTest::of(Class::of(c.template), c.a, c.b),
     };
     let all = replaying.over(query, events_read);
     Replayed {

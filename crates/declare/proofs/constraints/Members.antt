@@ -64,7 +64,7 @@ module _ (n : ℕ) where
       let of-b = range_member b 0 n from-b in
       record { from_1 = omega arith; to_24 = omega arith; a_declared = omega arith; b_declared = omega arith; paired = here.paired }
 
-  pub over_constraints : (c : Constraint) → Over n c → Memᴰ c (constraints n)
+  over_constraints : (c : Constraint) → Over n c → Memᴰ c (constraints n)
   unfolding constraints
   over_constraints c over =
       let in_row = member_flat_map (cell c.template c.a) c c.b (range 0 n) (member_range c.b 0 n (omega arith) (omega arith)) (cell_has c over.paired) in
@@ -82,7 +82,7 @@ disjoint_prop p q f (inr x) (inr y) = ap inr (q x y)
 pair_prop : {A B : Type 0} → IsProp A → IsProp B → IsProp (A × B)
 pair_prop p q x y = λ i. (p x.0 y.0 i, q x.1 y.1 i)
 
-pub precedes_prop : (c d : Constraint) → IsProp (Precedes c d)
+precedes_prop : (c d : Constraint) → IsProp (Precedes c d)
 precedes_prop c d =
     disjoint_prop le_prop
     (pair_prop (ℕ_set _ _) (disjoint_prop le_prop (pair_prop (ℕ_set _ _) le_prop) (λ h k. let e = k.0 in omega arith)))
@@ -163,7 +163,7 @@ module _ (n : ℕ) where
       let (a, from-a, in-a) = flat_map_member (row n t) c (range 0 n) h in
       (in_row t a c in-a).0
 
-  pub constraints_ordered : Pairwise Precedes (constraints n)
+  constraints_ordered : Pairwise Precedes (constraints n)
   unfolding constraints
   constraints_ordered = flat_map_ordered Precedes precedes_prop (grid n) grid_ordered across 1 24
     where
@@ -182,7 +182,7 @@ filter_exactly n passes =
 
 -- ## No other list is exactly this one
 
-pub never_both : (c d : Constraint) → Precedes c d → Precedes d c → ⊥
+never_both : (c d : Constraint) → Precedes c d → Precedes d c → ⊥
 never_both c d (inl h) (inl k) = omega arith
 never_both c d (inl h) (inr k) = omega (arith, k.0)
 never_both c d (inr h) (inl k) = omega (arith, h.0)

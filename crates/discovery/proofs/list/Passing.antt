@@ -4,14 +4,14 @@ use Prim.Native.Nat.{ℕ, ◌+◌, ◌*◌, ◌≤◌, ◌<◌}
 use mathlib.Core.Path.{◌≡◌, refl, sym, ap, subst, ◌∙◌}
 use mathlib.Core.Bool.{Bool, true, false, cond}
 use mathlib.Core.List.Memᴰ
-use mathlib.Core.List.{List, [], ◌∷◌, ◌++◌, append_assoc, append-nil, map, Memᴰ}
+use mathlib.Core.List.{List, [], ◌∷◌, ◌++◌, append_assoc, append-nil, Memᴰ}
 use native.Mathlib.Omega.{arith}
 use lib.ListN.{length, length-append}
 use lib.Seq.{sets}
 use native.Mathlib.Nat.{mul-le-mul}
 use Rattle.std.specs.List.{filter}
 use Rattle.base.specs.Lists.{non_empty, count}
-use Rattle.base.proofs.Lists.{filter_append, count_append, count_at_most, flat_map_append}
+use Rattle.base.proofs.Lists.{filter_append, filter_member, filter_within, count_append, count_at_most, flat_map_append}
 use Rattle.base.proofs.Stores.{sets_append}
 use Rattle.declare.specs.declared.constraints.Constraint.{Constraint}
 use Rattle.declare.specs.Meaning.{fulfilled}
@@ -27,18 +27,13 @@ use Rattle.replay.specs.declared.query.Query.{Query}
 use Rattle.replay.specs.Query.{asked_by}
 use Rattle.discovery.specs.declared.list.Tally.{Tally}
 use Rattle.pruning.specs.declared.Measure.{Measure}
-use Rattle.pruning.specs.Question.{Question, measure_of, class_of, reads, fulfilments, survives}
-use Rattle.pruning.specs.declared.Frequent.{Frequent}
-use Rattle.pruning.specs.Masks.{frequent_by, survives_by}
-use Rattle.eventlog.specs.Words.{word_of}
-use Rattle.replay.proofs.Querying.{survives_asked}
-use Rattle.discovery.specs.declared.walk.Walk.{Walk}
+use Rattle.pruning.specs.Question.{Question, measure_of, reads, fulfilments, survives}
 use Rattle.discovery.specs.declared.row.Counts.{Counts}
-use Rattle.discovery.specs.Listing.{lists, numbers, row, rows, is_listed, events_read}
+use Rattle.discovery.specs.Listing.{lists, numbers, row, rows, counts_of, is_listed, events_read}
 use Rattle.replay.specs.declared.Replayed.{Replayed}
 use Rattle.replay.specs.Replays.{Replays}
 use Rattle.discovery.specs.Passes.{Passes, Considers, TallyFits, none_yet}
-use Rattle.pruning.proofs.Pruning.{pruned_falls_short}
+use Rattle.pruning.proofs.Pruning.{fulfilled_survives}
 use Rattle.discovery.proofs.Listing.{rows_length, read_append, read_at_most}
 
 -- the fulfilled traces are few
@@ -60,15 +55,6 @@ events_few query = omega (arith, total_at_most non_empty (traces_in query.kept),
 module _ (counts : Constraint → Counts) where
   rows_append : (cs ds : List Constraint) → rows counts (cs ++ ds) ≡ rows counts cs ++ rows counts ds
   rows_append cs ds = flat_map_append _ cs ds
-
--- the walk says of its constraint what the question does
-pub walk_survives :
-    {words : List ℕ} {c : Constraint} (query : Query) (walk : Walk) (there : Frequent) → Over query.measure.activities c → walk.constraint ≡ c →
-    walk.frequent.now ≡ frequent_by query.measure words there → words ≡ map word_of (traces_in query.kept) →
-    survives_by walk.frequent.now walk.class walk.constraint ≡ survives (asked_by query) c
-walk_survives {c = c} query walk there over same counted of_words =
-    ap (survives_by walk.frequent.now walk.class) same
-    ∙ survives_asked query there c over counted of_words (walk.classed ∙ ap (λ (c : Constraint). class_of c.template) same)
 
 -- ## Passing over constraints of any counts
 
@@ -127,15 +113,6 @@ module _ {q : Question} where
   considers_none = record { passes = passes_none; replayed = omega arith; read = omega arith }
 
   module _ {c : Constraint} {t : Tally} {list : List ℕ} where
-    pub considers_pruned : survives q c ≡ false → Considers q (c ∷ []) t list t list
-    unfolding events_read
-    considers_pruned pruned =
-        record {
-          passes = passes_unlisted (pruned_falls_short q c pruned);
-          replayed = rw pruned (omega arith);
-          read = rw pruned (omega arith);
-        }
-
     pub considers_kept :
         {r : Replayed} {t' : Tally} {list' : List ℕ} → Replays q c t.replayed t.events_read r → survives q c ≡ true →
         Passes (measure_of q) (λ c. record { fulfilled = r.fulfilled }) (c ∷ []) t.listed list t'.listed list' → t'.replayed ≡ r.replayed →
@@ -158,23 +135,37 @@ module _ {q : Question} where
         read = omega (arith, p.read, p'.read, read_append q (filter (survives q) cs) (filter (survives q) ds), ap (events_read q) (filter_append (survives q) cs ds));
       }
 
--- ## On the way: some constraints are passed, and the rest are left
+  -- what pruning drops falls short: to pass over what it keeps is to pass over all
+  considers_survivors :
+      {t t' : Tally} {list list' : List ℕ} (cs : List Constraint) → Considers q (filter (survives q) cs) t list t' list' →
+      Considers q cs t list t' list'
+  considers_survivors {t = t} {list = list} cs p =
+      let short = filter_within (is_listed q) (survives q) (fulfilled_survives q) cs in
+      let twice = filter_within (survives q) (survives q) (λ c h. h) cs in
+      record {
+        passes = record { listed = omega (arith, p.passes.listed, ap length short); written = p.passes.written ∙ ap (λ cs. sets list (numbers * t.listed) (rows (counts_of q) cs)) short };
+        replayed = omega (arith, p.replayed, ap length twice);
+        read = omega (arith, p.read, ap (events_read q) twice);
+      }
+
+-- ## On the way: some of the constraints that pruning keeps are passed, and the rest are left
 
 pub record Passing (q : Question) (list : List ℕ) (passed rest : List Constraint) (t : Tally) (list' : List ℕ) : Type 0 where
   pub so_far : Considers q passed none_yet list t list'
-  pub all : passed ++ rest ≡ constraints q.activities
+  pub all : passed ++ rest ≡ filter (survives q) (constraints q.activities)
 
 module _ {q : Question} {list : List ℕ} {passed left : List Constraint} {t : Tally} {list' : List ℕ} (p : Passing q list passed left t list') where
   -- no more are listed and replayed than all
   pub passing_few : total q.traces ≤ most_events → TallyFits q.activities t
   passing_few few =
       let all = ap length p.all in
+      let some = count_at_most (survives q) (constraints q.activities) in
       let number = constraints_number q.activities in
       let same : count (survives q) passed ≤ count (survives q) passed = omega arith in
       record {
-        listed = omega (arith, p.so_far.passes.listed, count_at_most (is_listed q) passed, length-append passed left, all, number);
+        listed = omega (arith, p.so_far.passes.listed, count_at_most (is_listed q) passed, length-append passed left, all, some, number);
         read = omega (arith, p.so_far.read, p.so_far.replayed, read_at_most q (filter (survives q) passed), mul-le-mul same few);
-        replayed = omega (arith, p.so_far.replayed, count_at_most (survives q) passed, length-append passed left, all, number);
+        replayed = omega (arith, p.so_far.replayed, count_at_most (survives q) passed, length-append passed left, all, some, number);
       }
 
   -- what the next one reads can be added
@@ -184,14 +175,20 @@ module _ {q : Question} {list : List ℕ} {passed left : List Constraint} {t : T
       omega (arith, fits.read, few_numbers q.activities t.replayed few_activities fits.replayed)
 
   pub passing_done : left ≡ [] → Considers q (constraints q.activities) none_yet list t list'
-  passing_done none = rw (← p.all, none, append-nil) p.so_far
+  passing_done none = considers_survivors (constraints q.activities) (rw (← p.all, none, append-nil) p.so_far)
 
   module _ {c : Constraint} {rest : List Constraint} (first : left ≡ c ∷ rest) where
-    all_now : passed ++ (c ∷ rest) ≡ constraints q.activities
+    all_now : passed ++ (c ∷ rest) ≡ filter (survives q) (constraints q.activities)
     all_now = ap (λ left. passed ++ left) (sym first) ∙ p.all
 
+    kept_now : Memᴰ c (constraints q.activities) × (survives q c ≡ true)
+    kept_now = filter_member (survives q) c (constraints q.activities) (subst (Memᴰ c) all_now (Memᴰ.append_right passed (Memᴰ.head refl)))
+
     pub passing_over : Over q.activities c
-    passing_over = constraints_over q.activities c (subst (Memᴰ c) all_now (Memᴰ.append_right passed (Memᴰ.head refl)))
+    passing_over = constraints_over q.activities c kept_now.0
+
+    pub passing_survives : survives q c ≡ true
+    passing_survives = kept_now.1
 
     pub passing_next :
         {t' : Tally} {list'' : List ℕ} → Considers q (c ∷ []) t list' t' list'' → Passing q list (passed ++ (c ∷ [])) rest t' list''

@@ -5,7 +5,7 @@ use Rattle.discovery.proofs.list.Passing.{fulfilments_few, passes_one, considers
 use Rattle.discovery.proofs.list.consider.Goals as goal
 
 pub overflow_cast-counts : goal.overflow_cast-counts
-overflow_cast-counts c = omega (arith, c.replay-replayed.ensures.fulfilled, fulfilments_few c.args.query c.args.walk.constraint)
+overflow_cast-counts c = omega (arith, c.replay-replayed.ensures.fulfilled, fulfilments_few c.args.query c.args.c)
 
 pub overflow_cast-result : goal.overflow_cast-result
 overflow_cast-result c =
