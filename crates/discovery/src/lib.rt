@@ -14,8 +14,8 @@ use pruning::Settings;
 use replay::Query;
 pub use row::{Counts, NUMBERS, Row};
 
-// The constraints listed, those replayed, R (how many kept traces are of length 1 or more), and the events read: how many of them were handed to
-// replayers, taking each constraint once. They are at most 14,144 constraints times 4095 traces of 4096 events, more than 32 bits hold.
+// The constraints listed, those replayed, R (how many kept traces are of length 1 or more), and how many events were handed to replayers, taking
+// each constraint once. They are at most 14,144 constraints times 4095 traces of 4096 events, more than 32 bits hold.
 #[derive(Clone, Copy, Debug, PartialEq, Eq)]
 pub struct Found {
     pub constraints: u32,

@@ -39,7 +39,7 @@ behind w = filter (keeps w.frequent.now) (from_a w.activities w.template (w.a + 
 
 -- what the walk has left
 abbrev pub left : Walk → List Constraint
-left w = map (constraint w.template w.a) (activities_in w.beside) ++ behind w
+left w = map (constraint w.template w.a) (activities_in w.rest) ++ behind w
 
 -- the walk stands at a template and an a, and has all left that is kept there and behind it
 pub record Stands (w w' : Walk) : Type 0 where
@@ -52,6 +52,6 @@ places_left w = 256 * (24 - w.template) + (256 - w.a)
 
 -- it moves on to the next a or template, if there is one
 pub record MovesOn (w w' : Walk) (moved : Bool) : Type 0 where
-  pub on : moved ≡ true → behind w ≡ left w'
+  pub all : moved ≡ true → behind w ≡ left w'
   pub falls : moved ≡ true → places_left w' < places_left w
   pub ended : moved ≡ false → (behind w ≡ []) × (w' ≡ w)

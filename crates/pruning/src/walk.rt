@@ -14,7 +14,7 @@ pub struct Walk<'a> {
     frequent: &'a Frequent,
     template: u8,
     a: u8,
-    beside: u32,
+    rest: u32,
     ghost few: { activities ≤ most_activities },
     ghost a_declared: { a ≤ activities - 1 },
 }
@@ -50,7 +50,7 @@ impl<'a> Walk<'a> {
             frequent,
             template: 1,
             a: 0,
-            beside: 0,
+            rest: 0,
         };
         walk.stand();
         walk
@@ -61,12 +61,12 @@ impl<'a> Walk<'a> {
         ensures { Stands self.old self.new }
     {
         let class = Class::of(self.template);
-        self.beside = self.frequent.beside(class, self.a)
+        self.rest = self.frequent.beside(class, self.a)
             & partners(self.activities, self.template, self.a);
     }
 
     // On to the next a, or to the next template, if there is one.
-    fn on(&mut self) -> bool
+    fn move_on(&mut self) -> bool
         ensures { MovesOn self.old self.new result }
     {
         if self.a + 1 < self.activities {
@@ -93,13 +93,13 @@ impl<'a> Iterator for Walk<'a> {
     ghost remaining = { item_count left };
 
     fn next(&mut self) -> Option<Constraint> {
-        while self.beside == 0 {
-            if !self.on() {
+        while self.rest == 0 {
+            if !self.move_on() {
                 return None;
             }
         }
-        let b = self.beside.trailing_zeros() as u8;
-        self.beside &= !bit(b);
+        let b = self.rest.trailing_zeros() as u8;
+        self.rest &= !bit(b);
         Some(Constraint {
             template: self.template,
             a: self.a,

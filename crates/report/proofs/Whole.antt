@@ -2,16 +2,17 @@
 -- Assumes nothing.
 use Prim.Native.Nat.{ℕ, zero, suc, ◌+◌, ◌*◌, ◌^◌, ◌≤◌, ◌<◌}
 use native.Mathlib.Omega.{arith}
-use mathlib.Core.Path.{◌≡◌, ap, subst}
+use mathlib.Core.Path.{◌≡◌, refl, ap, subst}
 use mathlib.Core.Bool.{true}
-use mathlib.Core.List.{List, [], ◌∷◌}
+use mathlib.Core.List.{List, [], ◌∷◌, Mem}
 use borrow.Author.Tests.{ltb-false, not-false}
 use lib.ListN.{length, replicate, length-replicate, length-drop, drop}
 use Rattle.base.specs.Lists.{non_empty}
 use Rattle.base.specs.Checks.{refused, reply}
 use Rattle.base.proofs.Checks.{NoneFail, none_fail, none_fail_both, Each, each_append, refused_each}
 use Rattle.base.proofs.Lists.{count_at_most}
-use Rattle.declare.specs.Meaning.{fulfilled}
+use Rattle.declare.specs.Meaning.{meanings, holds, activated, fulfilled}
+use Rattle.declare.specs.Constraints.{constraints}
 use Rattle.declare.specs.Traces.{most_activities, declarable}
 use Rattle.eventlog.specs.declared.Room.{Room}
 use native.Mathlib.Nat.{mul-le-mul}
@@ -22,16 +23,17 @@ use Rattle.columns.specs.Log.{Line, Before, nothing_read, with_line, lines_withi
 use Rattle.eventlog.specs.Calls.{with_traces}
 use Rattle.declare.specs.declared.constraints.Constraint.{Constraint}
 use Rattle.pruning.specs.declared.Settings.{Settings}
-use Rattle.pruning.specs.Question.{Question, fulfilments}
+use Rattle.pruning.specs.Question.{Question, trace_count, support, fulfilments}
 use Rattle.discovery.specs.Listing.{listed, replayed, events_read}
 use Rattle.discovery.specs.Calls.{find_checks}
 use Rattle.discovery.proofs.Listing.{listed_exactly, replayed_at_most, read_at_most_last, listed_within_replayed}
 use Rattle.declare.proofs.constraints.Members.{few_numbers}
 use Rattle.report.specs.declared.Arrays.{Arrays}
 use Rattle.report.specs.Print.{number_width, detail_width}
-use Rattle.report.specs.Report.{most_input, lent_space, lent_list, log_of, activities_set, settings_set}
+use Rattle.report.specs.Report.{most_input, lent_space, lent_list, log_of, settings_laid_out, activities_set, settings_set}
 use Rattle.report.specs.Report.{log_question, question_set, room_lent, checks_to_read, checks_of_report, empty_store}
 use Rattle.report.specs.Whole.{WholeLines, Whole}
+use Rattle.report.specs.Examples.{sample}
 use Rattle.report.proofs.Reading.{Buffers, filled}
 
 -- ## Refusals
@@ -188,3 +190,27 @@ whole input =
           whole_report n (settings_set input) (log_of input) (not-false (declarable n) declared)
           (none_fail_both read (find_checks (question_set input) lent_list) later).0;
     }
+
+-- ## What the claim says
+
+refusals_fit :
+    (input : List ℕ) (number detail : ℕ) → Whole input → reply (checks_of_report input) [] ≡ refused number detail →
+    (number < 100) × (detail < 1000000)
+refusals_fit input number detail w = w.refusal number detail
+
+lines_fit :
+    (q : Question) → WholeLines q →
+    (length (listed q) < 1000000) × (length (replayed q) < 1000000) × (trace_count q < 1000000) × (events_read q (replayed q) < 10000000000)
+lines_fit q w = (w.constraints, w.replays, w.all, w.read)
+
+rules_fit :
+    (q : Question) → WholeLines q → (c : Constraint) → Mem c (listed q) →
+    (c.template < 100) × (c.a < 1000) × (c.b < 1000) × (fulfilments q.traces c < 100000)
+rules_fit q w = w.each
+
+-- document 01's sample is a find whose lines it speaks of
+sample_fits : Whole sample → WholeLines (question_set sample)
+unfolding
+    sample lent_list checks_of_report checks_to_read settings_laid_out activities_set settings_set lines log_checks spelled constraints
+    fulfilments support listed fulfilled activated holds meanings
+sample_fits w = w.report refl

@@ -12,7 +12,7 @@ use Rattle.discovery.specs.Listing.{listed, replayed, events_read}
 use Rattle.report.specs.Print.{refusal_line, first_line, constraint_line, found_text}
 use Rattle.report.specs.Report.{most_input, lent_space, lent_constraints, settings_laid_out, activities_set, settings_set, lent_list, left_by, checks_to_read, checks_of_report, output_of}
 
-pub sample : List ℕ
+unfoldable pub sample : List ℕ
 sample =
     32 ∷ 32 ∷ 50 ∷ 49 ∷ 48 ∷ 48 ∷ 48 ∷ 10 ∷
     32 ∷ 32 ∷ 32 ∷ 32 ∷ 32 ∷ 49 ∷ 32 ∷ 32 ∷ 48 ∷ 10 ∷

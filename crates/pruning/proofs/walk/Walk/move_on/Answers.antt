@@ -4,8 +4,8 @@ use Rattle.base.proofs.Bools.{clash}
 use Rattle.pruning.specs.declared.walk.Walk.{Walk}
 use Rattle.pruning.specs.Walk.{keeps, behind, from_a, from_template, places_left}
 use Rattle.pruning.proofs.Walking.{kept_from_template}
-use Rattle.pruning.proofs.walk.Walk.on.Goals as goal
-use Rattle.pruning.proofs.walk.Walk.on.Goals.{then-self, else-self+then-self-lt24}
+use Rattle.pruning.proofs.walk.Walk.move_on.Goals as goal
+use Rattle.pruning.proofs.walk.Walk.move_on.Goals.{then-self, else-self+then-self-lt24}
 
 -- where it stands next
 record Next (w s : Walk) : Type 0 where
@@ -23,7 +23,7 @@ next c =
 pub returns : goal.returns
 returns c =
     record {
-      on = λ moved. (next c).all ∙ sym c.stand.ensures.all;
+      all = λ moved. (next c).all ∙ sym c.stand.ensures.all;
       falls = λ moved. omega (arith, (next c).falls, c.stand.ensures.template, c.stand.ensures.a);
       ended = λ ended. clash refl ended;
     }
