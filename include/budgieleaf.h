@@ -39,11 +39,12 @@
  *    7  run longer than 4096                                             line           the writer of the log or run
  *    8  run count already 4095, or the length of the ends or word slice  line           the program that lends memory
  *    9  steps don't fit in the step buffer behind the last end           line           the program that lends memory
- *   10  list shorter than four numbers for each rule to be listed        rules needed   the program that lends memory
+ *   10  list shorter than five numbers for each rule to be listed        rules needed   the program that lends memory
  *   11  no run of length 1 or more kept                                  0              the operator
  *   12  more than 65536 bytes of input                                   0              the program that lends memory
  *   13  rule cut short, without template 1 to 24, or wrong steps         0              the writer of the rules
  *   14  more than 256 rules                                              0              the writer of the rules
+ *   15  confidence above 1000                                            0              the operator
  * What is sound, `budgieleaf_is_sound` says. A line is the log's, from 1. Add has no lines: its detail is 0 in 7, 8
  * and 9, and in 6 the place, from 1, of the first step that is not below N. Open has no answer, and so no detail. Only
  * findrules gives 12. The watcher's start gives 2, 14 and 13, its step 1, 6 and 7, all of them without a detail.
@@ -107,20 +108,26 @@ uint32_t budgieleaf_read(uint32_t store[2], uint8_t *events, size_t events_lengt
                          uint64_t answer[4]);
 
 /*
- * The constraints that enough of the kept traces fulfil: a count c meets a threshold t over R traces where
- * 1000 * c >= t * R, so the threshold is in thousandths. R and all counts are taken over the kept traces of length 1 or
- * more. Each constraint takes four numbers of the list: template (1 to 24), a, b (for templates 1 to 8, a again) and the
- * count of traces fulfilled, by template, then a, then b, rising. Numbers past the last constraint stay as they were.
- * There are at most 14 * N * N - 6 * N constraints, so 4 * 14144 numbers are always enough.
+ * The constraints that enough of the kept traces fulfil. R and all counts are taken over the kept traces of length 1 or
+ * more; in thousandths, nothing rounded, a constraint is listed where both
+ *   1000 * fulfilled >= threshold * R              (threshold 1 to 1000), and
+ *   1000 * fulfilled >= confidence * activated     (confidence 0 to 1000; with 0 the threshold alone decides).
+ * A trace is fulfilled where the constraint is activated and holds. It is activated in each trace for templates 1 to 10,
+ * in those with a for 13 to 16, with b for 17 to 19, and with a or b for 11, 12 and 20 to 24. A constraint that is activated
+ * in no trace is never listed: its count is 0, and the threshold at least 1.
+ * Each constraint takes five numbers of the list: template (1 to 24), a, b (for templates 1 to 8, a again), the count of
+ * traces fulfilled and that of traces activated, by template, then a, then b, rising. Numbers past the last constraint
+ * stay as they were. There are at most 14 * N * N - 6 * N constraints, so 5 * 14144 numbers are always enough.
  * Accepted: answer is { constraints listed, constraints replayed after pruning, R, events read }; the other
  * store[1] - R traces are empty. Events read says how many activities replay was handed, each constraint that pruning
  * keeps taken once: those of the traces with a for templates 1 to 3, 7 and 8, of all for 4 to 6, of those with a or b
- * for 9, 10, 12, 23 and 24, of those with both for 11 and 13 to 22.
- * Refusals, the first that holds: 1, 3, 11, 10. Where only empty traces are kept, it is 11.
+ * for 9, 10, 12, 23 and 24, of those with both for 11 and 13 to 22. The confidence changes the list alone, and none of the
+ * last three numbers.
+ * Refusals, the first that holds: 1, 3, 15, 11, 10. Where only empty traces are kept, it is 11.
  */
 uint32_t budgieleaf_find(const uint32_t store[2], const uint8_t *events, size_t events_length, const uint32_t *ends,
                          size_t ends_length, const uint32_t *words, size_t words_length, uint32_t threshold,
-                         uint16_t *list, size_t list_length, uint64_t answer[4]);
+                         uint32_t confidence, uint16_t *list, size_t list_length, uint64_t answer[4]);
 
 /*
  * WATCHING A RUN WHILE IT GROWS
@@ -141,7 +148,7 @@ uint32_t budgieleaf_find(const uint32_t store[2], const uint8_t *events, size_t 
  * WHAT IS LENT
  *   watcher      3 numbers, the record: N, the number of constraints, the number of activities taken. The start sets
  *                them. To watch the next run, start again.
- *   constraints  three numbers each: template, a, b, as budgieleaf_find lists them before the count. They are read and
+ *   constraints  three numbers each: template, a, b, as budgieleaf_find lists them before the counts. They are read and
  *                never written, so they can stay in flash; each step is lent those of the start again.
  *   states       256 bytes, one for each constraint: the states of their automata. Nothing else need be known of them.
  *   told         256 bytes, one for each constraint: the state told, 0 to 3.

@@ -11,12 +11,12 @@
 
 #include "budgieleaf.h"
 
-/* All the memory there is: 64 events, 8 traces, 90 rules. */
+/* All the memory there is: 64 events, 8 traces, 90 rules of five numbers. */
 static uint32_t store[2];
 static uint8_t events[64];
 static uint32_t ends[8];
 static uint32_t words[8];
-static uint16_t list[4 * 90];
+static uint16_t list[5 * 90];
 
 static int refused(const char *call, uint32_t number, uint64_t detail)
 {
@@ -30,10 +30,11 @@ static uint32_t add(const uint8_t *trace, size_t length, uint64_t answer[4])
                           trace, length, answer);
 }
 
+/* By a threshold alone: with a confidence of 0. */
 static uint32_t find(uint32_t threshold, size_t rules, uint64_t answer[4])
 {
     return budgieleaf_find(store, events, sizeof events, ends, sizeof ends / sizeof *ends, words, sizeof words / sizeof *words,
-                           threshold, list, 4 * rules, answer);
+                           threshold, 0, list, 5 * rules, answer);
 }
 
 int main(void)
@@ -77,12 +78,12 @@ int main(void)
     if (number == 10)
         refused("find", number, answer[0]);
 
-    number = find(900, sizeof list / sizeof *list / 4, answer);
+    number = find(900, sizeof list / sizeof *list / 5, answer);
     if (number != 0)
         return refused("find", number, answer[0]);
     printf("find: %" PRIu64 " rules, %" PRIu64 " replayed, %" PRIu64 " traces, %" PRIu64 " events read\n", answer[0], answer[1],
            answer[2], answer[3]);
     for (uint64_t k = 0; k < answer[0]; k++)
-        printf("%2d %2d %2d %4d\n", list[4 * k], list[4 * k + 1], list[4 * k + 2], list[4 * k + 3]);
+        printf("%2d %2d %2d %4d %4d\n", list[5 * k], list[5 * k + 1], list[5 * k + 2], list[5 * k + 3], list[5 * k + 4]);
     return 0;
 }

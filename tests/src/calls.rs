@@ -14,12 +14,27 @@ pub struct FindAnswer {
     pub events_read: u64,
 }
 
+/// What a find is asked by, in thousandths.
+#[derive(Clone, Copy, PartialEq, Eq, Debug)]
+pub struct Settings {
+    pub threshold: u32,
+    /// Document 02's k.
+    pub confidence: u32,
+}
+
+impl Settings {
+    /// By a threshold alone: with a confidence of 0.
+    pub fn by(threshold: u32) -> Settings {
+        Settings { threshold, confidence: 0 }
+    }
+}
+
 /// Each call on a store is lent its memory, and sets the record there.
 pub trait Calls {
     fn open(&mut self, n: u32) -> Result<Record, Refusal>;
     fn add(&mut self, memory: &mut Memory, trace: &[u8]) -> Result<(), Refusal>;
     fn read(&mut self, memory: &mut Memory, log: &[u8]) -> Result<u32, Refusal>;
-    fn find(&mut self, memory: &Memory, threshold: u32, list: &mut [u16]) -> Result<FindAnswer, Refusal>;
+    fn find(&mut self, memory: &Memory, settings: Settings, list: &mut [u16]) -> Result<FindAnswer, Refusal>;
 }
 
 impl<C: Calls + ?Sized> Calls for &mut C {
@@ -35,8 +50,8 @@ impl<C: Calls + ?Sized> Calls for &mut C {
         (**self).read(memory, log)
     }
 
-    fn find(&mut self, memory: &Memory, threshold: u32, list: &mut [u16]) -> Result<FindAnswer, Refusal> {
-        (**self).find(memory, threshold, list)
+    fn find(&mut self, memory: &Memory, settings: Settings, list: &mut [u16]) -> Result<FindAnswer, Refusal> {
+        (**self).find(memory, settings, list)
     }
 }
 

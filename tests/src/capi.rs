@@ -2,7 +2,7 @@
 //! against the Rattle source but these tests. Beside what a call answers, the wrappers look at each number that it must leave or
 //! set: a call that leaves or sets another ends the test at once.
 
-use crate::calls::{Calls, FindAnswer, WatchCalls};
+use crate::calls::{Calls, FindAnswer, Settings, WatchCalls};
 use crate::lent::{Memory, Record, Watch, Watcher, MOST_WATCHED};
 use crate::oracle::ledger::Refusal;
 
@@ -51,6 +51,7 @@ extern "C" {
         words: *const u32,
         words_length: usize,
         threshold: u32,
+        confidence: u32,
         list: *mut u16,
         list_length: usize,
         answer: *mut u64,
@@ -193,7 +194,7 @@ impl Calls for Archive {
         })
     }
 
-    fn find(&mut self, memory: &Memory, threshold: u32, list: &mut [u16]) -> Result<FindAnswer, Refusal> {
+    fn find(&mut self, memory: &Memory, settings: Settings, list: &mut [u16]) -> Result<FindAnswer, Refusal> {
         let (mut store, mut answer) = (Store::new(memory.record), Answer::new());
         let (events, ends, words) = (memory.events.get(), memory.ends.get(), memory.words.get());
         let number = unsafe {
@@ -205,7 +206,8 @@ impl Calls for Archive {
                 ends.len(),
                 words.as_ptr(),
                 words.len(),
-                threshold,
+                settings.threshold,
+                settings.confidence,
                 list.as_mut_ptr(),
                 list.len(),
                 answer.numbers(),

@@ -1,5 +1,6 @@
 //! Random traces, logs, settings lines and damage to them.
 
+use crate::calls::Settings;
 use crate::oracle::columns::{justified, written};
 use crate::rng::Rng;
 
@@ -14,12 +15,31 @@ pub fn activities(rng: &mut Rng) -> u32 {
     }
 }
 
-pub fn threshold(rng: &mut Rng) -> u32 {
+/// A number of thousandths from 1, often a half, a third, or near all.
+fn thousandths(rng: &mut Rng) -> u32 {
     match rng.below(4) {
         0 => rng.pick(&[1, 2, 333, 334, 500, 501, 666, 667, 750, 999, 1000]),
         1 => rng.within(800, 1000) as u32,
         _ => rng.within(1, 1000) as u32,
     }
+}
+
+/// Settings in range.
+pub fn settings(rng: &mut Rng) -> Settings {
+    let threshold = if rng.chance(70) { thousandths(rng) } else { rng.within(1, 100) as u32 };
+    Settings { threshold, confidence: if rng.chance(70) { thousandths(rng) } else { 0 } }
+}
+
+/// Settings of which one or both are often out of range.
+pub fn any_settings(rng: &mut Rng) -> Settings {
+    let mut settings = settings(rng);
+    if rng.chance(60) {
+        settings.threshold = rng.pick(&[0, 1001, 1002, u32::MAX, 65536, 65537, 1 << 31]);
+    }
+    if rng.chance(60) {
+        settings.confidence = rng.pick(&[1001, 1002, u32::MAX, 65536, 1 << 31]);
+    }
+    settings
 }
 
 /// A trace of at most `longest` activities below n, in one of several shapes, so that many constraints hold or just fail.
@@ -80,9 +100,9 @@ pub fn log(rng: &mut Rng, traces: &[Vec<u8>]) -> Vec<u8> {
     out
 }
 
-/// Settings as a line: N in three columns, threshold in four, line feed.
-pub fn settings(n: u32, threshold: u32) -> Vec<u8> {
-    format!("{}{}\n", justified(n, 3), justified(threshold, 4)).into_bytes()
+/// Settings as a line: N in three columns, threshold and confidence in four each, line feed.
+pub fn settings_line(n: u32, settings: Settings) -> Vec<u8> {
+    format!("{}{}{}\n", justified(n, 3), justified(settings.threshold, 4), justified(settings.confidence, 4)).into_bytes()
 }
 
 /// A field that is not well formed, or may be so by chance.
@@ -108,18 +128,20 @@ fn spoiled_field(rng: &mut Rng, width: usize) -> Vec<u8> {
     f
 }
 
-pub const SETTINGS_DAMAGES: usize = 7;
+pub const SETTINGS_DAMAGES: usize = 9;
 
 /// One damage to a settings line, by its number.
 pub fn damage_settings(rng: &mut Rng, kind: usize, line: &mut Vec<u8>) {
     match kind {
         0 => line.splice(..3, spoiled_field(rng, 3)).for_each(drop),
         1 => line.splice(3..7, spoiled_field(rng, 4)).for_each(drop),
-        2 => line[7] = rng.pick(b"\r \0x0\x0b"),
+        2 => line[11] = rng.pick(b"\r \0x0\x0b"),
         3 => line.splice(..3, justified(rng.pick(&[0, 33, 34, 99, 100, 255, 256, 289, 999]), 3).into_bytes()).for_each(drop),
         4 => line.splice(3..7, justified(rng.pick(&[0, 1001, 1002, 2000, 9999]), 4).into_bytes()).for_each(drop),
-        5 => line.insert(rng.below(8), rng.pick(b" 0\n\r")),
-        6 => drop(line.remove(rng.below(8))),
+        5 => line.splice(7..11, spoiled_field(rng, 4)).for_each(drop),
+        6 => line.splice(7..11, justified(rng.pick(&[1001, 1002, 2000, 9999]), 4).into_bytes()).for_each(drop),
+        7 => line.insert(rng.below(12), rng.pick(b" 0\n\r")),
+        8 => drop(line.remove(rng.below(12))),
         _ => unreachable!(),
     }
 }

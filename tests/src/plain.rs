@@ -3,13 +3,14 @@
 //! constraint that pruning keeps, and one before that where the list might not fit; no memory but what is lent. Traces that do not count
 //! for the constraint's class are passed over, told by their words. A replay keeps
 //! one state of the constraint's own automaton and looks the next one up. It counts support for each constraint, and not once a
-//! pair, as it has no place to remember it. A second finder is what a user might write without words: it does not look at them,
-//! and lets the standard library search the events, for support and for what is to be replayed.
+//! pair, as it has no place to remember it, and activated traces for each constraint whose count meets the threshold. A second finder is what
+//! a user might write without words: it does not look at them, and lets the standard library search the events, for support, for what is
+//! activated and for what is to be replayed.
 
-use crate::calls::FindAnswer;
+use crate::calls::{FindAnswer, Settings};
 use crate::lent::{Memory, Record};
 use crate::oracle::finder::{room_for_all, NUMBERS};
-use crate::oracle::ledger::{refusal, Refusal};
+use crate::oracle::ledger::{in_range, refusal, Refusal};
 use crate::oracle::templates::{verdict, Verdict};
 use std::collections::HashMap;
 
@@ -164,6 +165,17 @@ fn support_by_words(Kept { words, .. }: Kept, r: u32, template: u8, a: u8, b: u8
     }
 }
 
+/// The kept traces in which the constraint is activated; r is all of length 1 or more.
+fn activated_by_words(Kept { words, .. }: Kept, r: u32, template: u8, a: u8, b: u8) -> u32 {
+    let some = match template {
+        1..=10 => return r,
+        13..=16 => 1 << a,
+        17..=19 => 1 << b,
+        _ => 1 << a | 1 << b,
+    };
+    count_of(words, |word| word & some != 0)
+}
+
 /// Several bytes at a time, as the standard library does, where the trace is long enough for that.
 #[inline]
 fn has(trace: &[u8], x: u8) -> bool {
@@ -186,8 +198,27 @@ fn support_by_library(store: Kept, r: u32, template: u8, a: u8, b: u8) -> u32 {
     count as u32
 }
 
-/// How many traces count for a constraint: of a store and its R.
-type Support = fn(Kept, u32, u8, u8, u8) -> u32;
+/// The same without words.
+fn activated_by_library(store: Kept, r: u32, template: u8, a: u8, b: u8) -> u32 {
+    let all = traces(store);
+    let count = match template {
+        1..=10 => r as usize,
+        13..=16 => all.filter(|w| has(w, a)).count(),
+        17..=19 => all.filter(|w| has(w, b)).count(),
+        _ => all.filter(|w| has(w, a) || has(w, b)).count(),
+    };
+    count as u32
+}
+
+/// How many traces count for a constraint, or activate it: of a store and its R.
+type Count = fn(Kept, u32, u8, u8, u8) -> u32;
+
+/// How a finder counts traces without replay.
+#[derive(Clone, Copy)]
+struct Counts {
+    support: Count,
+    activated: Count,
+}
 
 /// How a finder tells which traces count for a constraint.
 trait Tells {
@@ -244,8 +275,9 @@ impl Tells for BySearch {
     }
 }
 
-fn meets(count: u32, threshold: u32, traces: u32) -> bool {
-    1000 * count >= threshold * traces
+/// So many of a number of traces are enough for these thousandths.
+fn meets(count: u32, thousandths: u32, traces: u32) -> bool {
+    1000 * count >= thousandths * traces
 }
 
 /// The fulfilled traces of a constraint, and how many events were read for it.
@@ -262,14 +294,14 @@ fn replay<T: Tells>(automaton: &Automaton, store: Kept, template: u8, a: u8, b: 
     (fulfilled, events_read)
 }
 
-/// Goes over the constraints in their order and hands each one to be listed on, with its count. Gives the replayed number, and that of the
+/// Goes over the constraints in their order and hands each one to be listed on, with its counts. Gives the replayed number, and that of the
 /// events read.
 fn walk<T: Tells>(
     automaton: &Automaton,
-    support: Support,
+    counts: Counts,
     store: Kept,
     r: u32,
-    threshold: u32,
+    Settings { threshold, confidence }: Settings,
     mut listed: impl FnMut([u16; NUMBERS]),
 ) -> (u32, u64) {
     let n = store.record.activities as u8;
@@ -285,14 +317,18 @@ fn walk<T: Tells>(
                 if template > 12 && a == b {
                     continue;
                 }
-                if !meets(support(store, r, template, a, b), threshold, r) {
+                if !meets((counts.support)(store, r, template, a, b), threshold, r) {
                     continue;
                 }
                 let (count, read) = replay::<T>(automaton, store, template, a, b);
                 replayed += 1;
                 events_read += read;
-                if meets(count, threshold, r) {
-                    listed([template as u16, a as u16, b as u16, count as u16]);
+                if !meets(count, threshold, r) {
+                    continue;
+                }
+                let activated = (counts.activated)(store, r, template, a, b);
+                if meets(count, confidence, activated) {
+                    listed([template as u16, a as u16, b as u16, count as u16, activated as u16]);
                 }
             }
         }
@@ -303,44 +339,44 @@ fn walk<T: Tells>(
 /// The find of a sound store with r traces of length 1 or more.
 fn find<T: Tells>(
     automaton: &Automaton,
-    support: Support,
+    counts: Counts,
     store: Kept,
     r: u32,
-    threshold: u32,
+    settings: Settings,
     list: &mut [u16],
 ) -> Result<FindAnswer, Refusal> {
-    if !(1..=1000).contains(&threshold) {
-        return Err(refusal(3, 0));
-    }
+    in_range(settings)?;
     if r == 0 {
         return Err(refusal(11, 0));
     }
     if list.len() < room_for_all(store.record.activities) {
         let mut needed = 0;
-        walk::<T>(automaton, support, store, r, threshold, |_| needed += 1);
+        walk::<T>(automaton, counts, store, r, settings, |_| needed += 1);
         if list.len() < NUMBERS * needed {
             return Err(refusal(10, needed));
         }
     }
     let mut listed = 0;
     let mut places = list.chunks_exact_mut(NUMBERS);
-    let (replayed, events_read) = walk::<T>(automaton, support, store, r, threshold, |rule| {
+    let (replayed, events_read) = walk::<T>(automaton, counts, store, r, settings, |rule| {
         places.next().unwrap().copy_from_slice(&rule);
         listed += 1;
     });
     Ok(FindAnswer { listed, replayed, traces: r, events_read })
 }
 
-/// Support and R from the words, as the proved code has them.
-pub fn by_words(automaton: &Automaton, memory: &Memory, threshold: u32, list: &mut [u16]) -> Result<FindAnswer, Refusal> {
+/// Support, activated traces and R from the words, as the proved code has them.
+pub fn by_words(automaton: &Automaton, memory: &Memory, settings: Settings, list: &mut [u16]) -> Result<FindAnswer, Refusal> {
     let store = sound_with_words(memory).ok_or(refusal(1, 0))?;
     let r = count_of(store.words, |word| word != 0);
-    find::<ByWord>(automaton, support_by_words, store, r, threshold, list)
+    let counts = Counts { support: support_by_words, activated: activated_by_words };
+    find::<ByWord>(automaton, counts, store, r, settings, list)
 }
 
-/// Support and R from the traces, without words.
-pub fn by_library(automaton: &Automaton, memory: &Memory, threshold: u32, list: &mut [u16]) -> Result<FindAnswer, Refusal> {
+/// Support, activated traces and R from the traces, without words.
+pub fn by_library(automaton: &Automaton, memory: &Memory, settings: Settings, list: &mut [u16]) -> Result<FindAnswer, Refusal> {
     let store = sound_without_words(memory).ok_or(refusal(1, 0))?;
     let r = traces(store).count() as u32;
-    find::<BySearch>(automaton, support_by_library, store, r, threshold, list)
+    let counts = Counts { support: support_by_library, activated: activated_by_library };
+    find::<BySearch>(automaton, counts, store, r, settings, list)
 }

@@ -1,6 +1,6 @@
 //! Histories of calls, each compared with the model (every byte that is lent) and with the ledger (what is answered).
 
-use crate::calls::{Calls, FindAnswer};
+use crate::calls::{Calls, FindAnswer, Settings};
 use crate::gen;
 use crate::lent::{Lent, Memory};
 use crate::oracle::finder::{room_for_all, NUMBERS};
@@ -14,7 +14,7 @@ pub enum Call {
     Open(u32),
     Add(Vec<u8>),
     Read(Vec<u8>),
-    Find(u32, Lent<u16>),
+    Find(Settings, Lent<u16>),
 }
 
 /// What a call answered, in one shape for all four.
@@ -36,7 +36,7 @@ pub fn make(calls: &mut dyn Calls, memory: &mut Memory, call: &mut Call) -> Said
         }),
         Call::Add(trace) => calls.add(memory, trace).map(|()| Said::Added),
         Call::Read(log) => calls.read(memory, log).map(Said::Read),
-        Call::Find(threshold, list) => calls.find(memory, *threshold, list.get_mut()).map(Said::Found),
+        Call::Find(settings, list) => calls.find(memory, *settings, list.get_mut()).map(Said::Found),
     };
     said.unwrap_or_else(Said::Refused)
 }
@@ -79,13 +79,13 @@ fn in_ledger(ledger: &mut Ledger, call: &Call) -> Said {
         Call::Open(n) => ledger.open(*n).map(|()| Said::Opened),
         Call::Add(trace) => ledger.add(trace).map(|()| Said::Added),
         Call::Read(log) => ledger.read(log).map(Said::Read),
-        Call::Find(threshold, list) => ledger.find(*threshold, list.get().len()).map(|found| Said::Found(found.answer())),
+        Call::Find(settings, list) => ledger.find(*settings, list.get().len()).map(|found| Said::Found(found.answer())),
     };
     said.unwrap_or_else(Said::Refused)
 }
 
 /// How often each answer was given: accepted calls under 0, refusals under their numbers.
-pub type Tally = [usize; 13];
+pub type Tally = [usize; 16];
 
 /// A history in progress: the memory as the calls left it, and the ledger that was fed their arguments alone.
 pub struct History<C> {
@@ -103,7 +103,7 @@ impl<C: Calls> History<C> {
         let (ends, words) = (numbers(ends_room), numbers(words_room));
         let record = subject.open(n).expect("a fresh store is opened");
         let ledger = Ledger::fresh(n, events_room, ends_room, words_room);
-        History { subject, memory: Memory { record, events, ends, words }, ledger, tally: [0; 13] }
+        History { subject, memory: Memory { record, events, ends, words }, ledger, tally: [0; 16] }
     }
 
     pub fn call(&mut self, call: Call) -> Result<Said, String> {
@@ -171,10 +171,10 @@ fn added_trace(rng: &mut Rng, n: u32, Sizes { longest, empty, .. }: Sizes) -> Ve
 }
 
 /// A slice for the list: too short by little or much, exact, or longer; a length that is no multiple of a constraint's, too.
-fn list(rng: &mut Rng, ledger: &Ledger, threshold: u32) -> Lent<u16> {
+fn list(rng: &mut Rng, ledger: &Ledger, settings: Settings) -> Lent<u16> {
     let needed = match rng.below(3) {
         0 => rng.within(0, 15 * NUMBERS),
-        _ => match ledger.find(threshold, 0) {
+        _ => match ledger.find(settings, 0) {
             Err(Refusal { number: 10, detail }) => NUMBERS * detail as usize,
             _ => rng.within(0, 2 * NUMBERS),
         },
@@ -208,11 +208,8 @@ pub fn next_call(rng: &mut Rng, ledger: &Ledger, sizes: Sizes) -> Call {
             Call::Read(gen::maybe_damaged_log(rng, n, &traces))
         }
         _ => {
-            let threshold = match rng.below(8) {
-                0 => rng.pick(&[0, 1001, 1002, u32::MAX, 65536, 65537, 1 << 31]),
-                _ => gen::threshold(rng),
-            };
-            Call::Find(threshold, list(rng, ledger, threshold))
+            let settings = if rng.below(8) == 0 { gen::any_settings(rng) } else { gen::settings(rng) };
+            Call::Find(settings, list(rng, ledger, settings))
         }
     }
 }

@@ -1,6 +1,7 @@
 //! The inputs in samples/, made anew from fixed seeds. `cargo run --release --bin samples` writes them with their outputs.
 
-use crate::gen::settings;
+use crate::calls::Settings;
+use crate::gen::settings_line;
 use crate::oracle::columns::written;
 use crate::rng::Rng;
 
@@ -10,8 +11,13 @@ fn log(first: u32, traces: &[Vec<u8>]) -> Vec<u8> {
     numbered.flat_map(|(w, number)| w.iter().flat_map(move |&x| written(number, x as u32))).collect()
 }
 
+fn input_by(n: u32, settings: Settings, log: Vec<u8>) -> Vec<u8> {
+    [settings_line(n, settings), log].concat()
+}
+
+/// By a threshold alone.
 fn input(n: u32, threshold: u32, log: Vec<u8>) -> Vec<u8> {
-    [settings(n, threshold), log].concat()
+    input_by(n, Settings::by(threshold), log)
 }
 
 /// Five activities: 0 tip, 1 wash, 2 sort, 3 pack, 4 check. Nearly every trace is tipped, washed, sorted and packed; some are
@@ -51,20 +57,42 @@ fn large() -> Vec<u8> {
     input(32, 850, log(1, &traces))
 }
 
-/// Four traces over 28 activities of which just 8000 constraints are fulfilled at least once.
-const LISTED_8000: [&[u8]; 4] = [
-    &[11, 26, 5, 20, 18, 9, 13, 16, 3, 21, 10, 4, 11, 14, 25, 23, 7, 1, 15, 22, 8, 24, 12, 27, 12, 6, 19, 0, 11],
-    &[23, 19, 15, 0, 14, 20, 4, 12, 21, 27, 3, 9, 9, 16, 17, 6, 18, 11, 13, 7, 2, 5, 10],
-    &[21, 19, 17, 8, 13, 10, 16, 0, 22, 2, 1, 23, 6, 23, 25, 7, 24, 12, 18, 20, 2, 5, 26, 10, 11, 15, 4, 3],
-    &[16, 2, 15, 22, 27, 8, 25, 19, 18, 24, 10, 20, 1, 13, 23, 9, 17, 14, 7, 21, 11, 12, 18, 16],
+/// The activities of the season, and 5 jam and 6 clear. Each sixth trace jams, and of these 40 all but one are cleared; every other trace is
+/// checked, though all are sorted.
+fn seldom() -> Vec<u8> {
+    let traces: Vec<Vec<u8>> = (0..240)
+        .map(|k| {
+            let mut w = vec![0, 1, 2];
+            if k % 2 == 0 {
+                w.push(4);
+            }
+            if k % 6 == 1 {
+                w.push(5);
+            }
+            if k % 6 == 1 && k > 1 {
+                w.push(6);
+            }
+            w.push(3);
+            w
+        })
+        .collect();
+    input_by(7, Settings { threshold: 50, confidence: 950 }, log(1, &traces))
+}
+
+/// Four traces over 25 activities of which just 6400 constraints are fulfilled at least once.
+const LISTED_6400: [&[u8]; 4] = [
+    &[23, 15, 13, 22, 20, 18, 7, 17, 14, 3, 19, 8, 1, 10, 24, 9, 5, 21, 2, 16, 14, 4, 11],
+    &[1, 12, 13, 20, 2, 9, 22, 6, 10, 19, 12, 7, 5, 23, 24, 8, 12, 18, 14, 0, 15, 11, 5, 5, 4, 17, 3],
+    &[11, 15, 16, 24, 5, 4, 19, 12, 18, 0, 22, 10, 6, 1, 2, 20, 13, 21, 7, 17, 23],
+    &[8, 3, 13, 18, 0, 17, 14, 0, 10, 21, 1, 4, 1, 4, 17, 23, 6, 20, 22, 16, 15, 7, 9, 2, 19, 12, 19],
 ];
 
-/// And of which just 8001 are.
-const LISTED_8001: [&[u8]; 4] = [
-    &[14, 8, 9, 21, 1, 26, 13, 2, 0, 25, 6, 23, 2, 17, 5, 10, 20, 24, 27, 12, 3, 19, 16, 18],
-    &[7, 2, 16, 18, 22, 15, 19, 11, 12, 5, 24, 20, 0, 3, 4, 23, 10, 1, 14, 8, 8, 27, 25, 21, 9, 17, 8, 6, 13],
-    &[23, 17, 14, 19, 10, 6, 12, 26, 11, 22, 0, 7, 18, 1, 2, 21, 9, 18, 20, 8, 4, 1, 15],
-    &[27, 13, 4, 17, 5, 8, 20, 21, 7, 11, 0, 15, 24, 23, 22, 2, 7],
+/// And of which just 6401 are.
+const LISTED_6401: [&[u8]; 4] = [
+    &[23, 7, 4, 12, 12, 24, 15, 5, 20, 12, 19, 16, 21, 13, 6, 9, 0, 10, 1, 2, 1, 17, 17, 1, 8],
+    &[10, 5, 8, 15, 22, 9, 20, 4, 16, 11, 23, 18, 3, 17, 13, 0, 19, 14, 1, 7, 24],
+    &[3, 4, 14, 19, 23, 22, 6, 7, 2, 12, 0, 9, 24, 1, 10, 8, 17, 18, 11, 21, 15],
+    &[17, 21, 7, 0, 18, 8, 12, 6, 1, 20, 9, 10, 16, 13, 15, 11, 22, 4, 24, 14, 5, 23, 3, 4],
 ];
 
 /// Each sample's name and input.
@@ -77,7 +105,8 @@ pub fn all() -> Vec<(&'static str, Vec<u8>)> {
         ("two-traces", input(2, 1000, log(1, &[vec![0, 1], vec![0, 0, 1]]))),
         ("season", season()),
         ("large", large()),
-        ("list-of-8000", input(28, 1, log(1, &LISTED_8000.map(|w| w.to_vec())))),
+        ("seldom", seldom()),
+        ("list-of-6400", input(25, 1, log(1, &LISTED_6400.map(|w| w.to_vec())))),
         ("refusal-02", input(33, 1000, small.clone())),
         ("refusal-03", input(2, 1001, small.clone())),
         ("refusal-04-settings", b"  2 950".to_vec()),
@@ -87,8 +116,9 @@ pub fn all() -> Vec<(&'static str, Vec<u8>)> {
         ("refusal-06", input(2, 1000, with(&line(2, 2)))),
         ("refusal-07", input(1, 1000, log(1, &[vec![0; 4097]]))),
         ("refusal-08", input(1, 1000, log(1, &vec![vec![0]; 4096]))),
-        ("refusal-10", input(28, 1, log(1, &LISTED_8001.map(|w| w.to_vec())))),
+        ("refusal-10", input(25, 1, log(1, &LISTED_6401.map(|w| w.to_vec())))),
         ("refusal-11", input(2, 1000, Vec::new())),
-        ("refusal-12", [input(1, 1000, log(1, &vec![vec![0; 2]; 3276])), b"  6553  0".to_vec()].concat()),
+        ("refusal-12", [input(1, 1000, log(1, &vec![vec![0; 2]; 3276])), b"  655".to_vec()].concat()),
+        ("refusal-15", input_by(2, Settings { threshold: 1000, confidence: 1001 }, small.clone())),
     ]
 }

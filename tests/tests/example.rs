@@ -1,6 +1,6 @@
 //! samples/example.c and samples/watch.c are compiled against the header, linked with the archive and run.
 
-use budgieleaf_tests::calls::FindAnswer;
+use budgieleaf_tests::calls::{FindAnswer, Settings};
 use budgieleaf_tests::oracle::finder::find;
 use budgieleaf_tests::oracle::ledger::refusal;
 use budgieleaf_tests::oracle::watcher::{state, Watched};
@@ -31,11 +31,11 @@ fn printed(name: &str) -> String {
 #[test]
 fn the_c_example_compiles_and_prints_what_it_should() {
     let printed = printed("example");
-    let found = find(3, &[vec![0, 1, 2], vec![0, 1, 1, 2], vec![0, 2], vec![0, 1, 2]], 900);
+    let found = find(3, &[vec![0, 1, 2], vec![0, 1, 1, 2], vec![0, 2], vec![0, 1, 2]], Settings::by(900));
     let FindAnswer { listed, replayed, traces, events_read } = found.answer();
     let mut expected = format!("find: {listed} rules, {replayed} replayed, {traces} traces, {events_read} events read\n");
-    for [template, a, b, count] in found.list {
-        expected += &format!("{template:>2} {a:>2} {b:>2} {count:>4}\n");
+    for [template, a, b, fulfilled, activated] in found.list {
+        expected += &format!("{template:>2} {a:>2} {b:>2} {fulfilled:>4} {activated:>4}\n");
     }
     assert!(printed.ends_with(&expected), "{printed}{expected}");
     assert!(printed.contains("add: refusal 6, detail 2\n") && printed.contains("find: refusal 10, detail"));

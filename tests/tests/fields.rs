@@ -1,7 +1,7 @@
 //! Fields of columns through the archive's read: every run number and step, and every field over the bytes that matter. Readers with one
 //! fault each, in how the value so far goes on, have to be reported.
 
-use budgieleaf_tests::calls::{Calls, FindAnswer};
+use budgieleaf_tests::calls::{Calls, FindAnswer, Settings};
 use budgieleaf_tests::capi::Archive;
 use budgieleaf_tests::lent::{Memory, Record};
 use budgieleaf_tests::oracle::columns::written;
@@ -122,8 +122,8 @@ impl Calls for Reader {
         Model.read(memory, &lines)
     }
 
-    fn find(&mut self, memory: &Memory, threshold: u32, list: &mut [u16]) -> Result<FindAnswer, Refusal> {
-        Model.find(memory, threshold, list)
+    fn find(&mut self, memory: &Memory, settings: Settings, list: &mut [u16]) -> Result<FindAnswer, Refusal> {
+        Model.find(memory, settings, list)
     }
 }
 

@@ -1,6 +1,6 @@
 //! Tests of the tests: with the model itself as the subject all cases pass, with a faulty one the fault is reported.
 
-use budgieleaf_tests::calls::{Calls, FindAnswer};
+use budgieleaf_tests::calls::{Calls, FindAnswer, Settings};
 use budgieleaf_tests::lent::{Lent, Memory, Record};
 use budgieleaf_tests::memories::{self, right_words};
 use budgieleaf_tests::oracle::finder::{room_for_all, NUMBERS};
@@ -55,6 +55,8 @@ enum Fault {
     FullWithoutEmpty,
     EmptyInR,
     EmptyFulfils,
+    EmptyActivates,
+    AllActivate,
     OnlyEmptyListed,
     WordMissing,
     WordOfAll,
@@ -62,7 +64,7 @@ enum Fault {
     FullByEndsAlone,
 }
 
-const FAULTS: [Fault; 32] = [
+const FAULTS: [Fault; 34] = [
     Fault::OpensAny,
     Fault::EventPast,
     Fault::EndPast,
@@ -90,6 +92,8 @@ const FAULTS: [Fault; 32] = [
     Fault::FullWithoutEmpty,
     Fault::EmptyInR,
     Fault::EmptyFulfils,
+    Fault::EmptyActivates,
+    Fault::AllActivate,
     Fault::OnlyEmptyListed,
     Fault::WordMissing,
     Fault::WordOfAll,
@@ -222,8 +226,8 @@ impl Calls for Faulty {
         said
     }
 
-    fn find(&mut self, memory: &Memory, threshold: u32, list: &mut [u16]) -> Result<FindAnswer, Refusal> {
-        let mut said = Model.find(memory, threshold, list);
+    fn find(&mut self, memory: &Memory, settings: Settings, list: &mut [u16]) -> Result<FindAnswer, Refusal> {
+        let mut said = Model.find(memory, settings, list);
         match &mut said {
             Err(r) => {
                 self.refusal(r);
@@ -260,6 +264,14 @@ impl Calls for Faulty {
                 let absence = list[..used].chunks_mut(NUMBERS).find(|c| c[0] == 4);
                 if self.when(Fault::EmptyFulfils, empty > 0 && absence.is_some()) {
                     absence.unwrap()[3] += empty as u16;
+                }
+                let always = list[..used].chunks_mut(NUMBERS).find(|c| c[0] <= 10);
+                if self.when(Fault::EmptyActivates, empty > 0 && always.is_some()) {
+                    always.unwrap()[4] += empty as u16;
+                }
+                let seldom = list[..used].chunks_mut(NUMBERS).find(|c| c[4] as u32 != found.traces);
+                if self.when(Fault::AllActivate, seldom.is_some()) {
+                    seldom.unwrap()[4] = found.traces as u16;
                 }
             }
         }

@@ -1,7 +1,7 @@
 //! Random histories of open, add, read and find through the archive: after every call the answer, the record and every byte that
 //! was lent are compared with the model, and the answer with the ledger.
 
-use budgieleaf_tests::calls::{Calls, FindAnswer};
+use budgieleaf_tests::calls::{Calls, FindAnswer, Settings};
 use budgieleaf_tests::capi::Archive;
 use budgieleaf_tests::gen;
 use budgieleaf_tests::lent::Lent;
@@ -12,7 +12,7 @@ use budgieleaf_tests::rng::{cases, Rng};
 
 /// Random histories of these sizes; each of these answers must come, and 8 both by the words alone and by the ends alone.
 fn random(name: &str, seed: u64, default: usize, answers: &[usize], sizes: impl Fn(&mut Rng) -> Sizes) {
-    let (mut reached, mut full) = ([0; 13], Full::default());
+    let (mut reached, mut full) = ([0; 16], Full::default());
     let mut rng = Rng::new(seed);
     for case in 0..cases(default) {
         let sizes = sizes(&mut rng);
@@ -29,7 +29,7 @@ fn random(name: &str, seed: u64, default: usize, answers: &[usize], sizes: impl 
 
 #[test]
 fn small_buffers() {
-    random("small", 1, 1200, &[0, 2, 3, 4, 5, 6, 8, 9, 10, 11], |rng| {
+    random("small", 1, 1200, &[0, 2, 3, 4, 5, 6, 8, 9, 10, 11, 15], |rng| {
         let longest = rng.pick(&[1, 4, 9]);
         Sizes { events: rng.below(60), ends: rng.below(9), words: rng.below(12), calls: 30, longest, lines: 40, empty: 0 }
     });
@@ -38,7 +38,7 @@ fn small_buffers() {
 /// Most traces are empty, and often all that are kept.
 #[test]
 fn full_of_empty_traces() {
-    random("empty", 3, 400, &[0, 3, 6, 8, 9, 10, 11], |rng| {
+    random("empty", 3, 400, &[0, 3, 6, 8, 9, 10, 11, 15], |rng| {
         let (longest, empty) = rng.pick(&[(1, 50), (2, 90), (6, 60), (6, 95)]);
         Sizes { events: rng.below(60), ends: rng.within(1, 25), words: rng.within(1, 25), calls: 40, longest, lines: 3, empty }
     });
@@ -46,7 +46,7 @@ fn full_of_empty_traces() {
 
 #[test]
 fn middling_buffers() {
-    random("middling", 2, 250, &[0, 2, 3, 4, 5, 6, 8, 9, 10, 11], |rng| {
+    random("middling", 2, 250, &[0, 2, 3, 4, 5, 6, 8, 9, 10, 11, 15], |rng| {
         let longest = rng.pick(&[3, 15, 40]);
         let (ends, words) = (rng.within(10, 40), rng.within(10, 40));
         Sizes { events: rng.within(100, 600), ends, words, calls: 60, longest, lines: 200, empty: 20 }
@@ -60,6 +60,14 @@ fn large_buffers() {
         let (ends, words) = (rng.within(5, 5000), rng.within(5, 5000));
         Sizes { events: rng.within(9000, 30000), ends, words, calls: 25, longest, lines: 5000, empty: 0 }
     });
+}
+
+fn by(threshold: u32) -> Settings {
+    Settings::by(threshold)
+}
+
+fn confident(threshold: u32, confidence: u32) -> Settings {
+    Settings { threshold, confidence }
 }
 
 fn list(rng: &mut Rng, len: usize) -> Lent<u16> {
@@ -91,7 +99,7 @@ fn up_to_the_last_trace() {
         assert_eq!(call(Call::Read(b"     1  0\n".to_vec())), Said::Refused(refusal(8, 1)));
         assert_eq!(call(Call::Read(b"     1  3\n".to_vec())), Said::Refused(refusal(6, 1)));
         assert_eq!(call(Call::Read(vec![])), Said::Read(0));
-        let listed = call(Call::Find(300, list_for(rng, 100)));
+        let listed = call(Call::Find(by(300), list_for(rng, 100)));
         assert!(matches!(listed, Said::Found(FindAnswer { traces, .. }) if traces == most as u32 - 1), "{listed:?}");
     }
 }
@@ -113,10 +121,10 @@ fn up_to_the_last_event() {
     assert_eq!(call(Call::Add(vec![])), Said::Added);
     assert_eq!(call(Call::Add(vec![0])), Said::Refused(refusal(9, 0)));
     assert_eq!(call(Call::Read(lines(1))), Said::Refused(refusal(9, 1)));
-    assert!(matches!(call(Call::Find(500, list_for(rng, 100))), Said::Found(FindAnswer { traces: 3, .. })));
+    assert!(matches!(call(Call::Find(by(500), list_for(rng, 100))), Said::Found(FindAnswer { traces: 3, .. })));
     assert_eq!(call(Call::Open(33)), Said::Refused(refusal(2, 0)));
     assert_eq!(call(Call::Open(32)), Said::Opened);
-    assert_eq!(call(Call::Find(500, list_for(rng, 100))), Said::Refused(refusal(11, 0)));
+    assert_eq!(call(Call::Find(by(500), list_for(rng, 100))), Said::Refused(refusal(11, 0)));
 }
 
 /// All numbers of rules from too few to enough, one by one.
@@ -128,10 +136,10 @@ fn lists_of_every_length() {
         let trace = gen::trace(rng, 4, 9);
         history.call(Call::Add(trace)).unwrap();
     }
-    for threshold in [1, 400, 800, 1000] {
-        let Err(needed) = history.ledger.find(threshold, 0) else { panic!("some rule is listed") };
+    for settings in [by(1), by(400), confident(400, 700), by(1000), confident(1, 1000)] {
+        let Err(needed) = history.ledger.find(settings, 0) else { panic!("some rule is listed") };
         for len in 0..NUMBERS * (needed.detail as usize + 1) + 2 {
-            history.call(Call::Find(threshold, list(rng, len))).unwrap();
+            history.call(Call::Find(settings, list(rng, len))).unwrap();
         }
     }
 }
@@ -145,8 +153,12 @@ fn rows_of_document_01() {
     assert_eq!(call(Call::Add(vec![0, 1])), Said::Added);
     assert_eq!(call(Call::Add(vec![0, 0, 1])), Said::Added);
     let answer = FindAnswer { listed: 18, replayed: 44, traces: 2, events_read: 220 };
-    assert_eq!(call(Call::Find(1000, list_for(rng, 18))), Said::Found(answer));
-    assert_eq!(call(Call::Find(1000, list(rng, NUMBERS * 18 - 1))), Said::Refused(refusal(10, 18)));
+    assert_eq!(call(Call::Find(by(1000), list_for(rng, 18))), Said::Found(answer));
+    assert_eq!(call(Call::Find(by(1000), list(rng, NUMBERS * 18 - 1))), Said::Refused(refusal(10, 18)));
+    // 3, then 15, then 10.
+    assert_eq!(call(Call::Find(confident(1001, 1001), list(rng, 0))), Said::Refused(refusal(3, 0)));
+    assert_eq!(call(Call::Find(confident(1000, 1001), list(rng, 0))), Said::Refused(refusal(15, 0)));
+    assert_eq!(call(Call::Find(confident(1000, 1000), list(rng, 0))), Said::Refused(refusal(10, 18)));
     assert_eq!(call(Call::Open(32)), Said::Opened);
     assert_eq!(call(Call::Open(33)), Said::Refused(refusal(2, 0)));
     assert_eq!(call(Call::Add(vec![31; 4096])), Said::Added);
@@ -213,25 +225,25 @@ fn only_empty_traces() {
             assert_eq!(history.call(Call::Add(vec![])).unwrap(), Said::Added);
             if k < 3 || k > most - 4 {
                 for room in [0, 1, 1000] {
-                    assert_eq!(history.call(Call::Find(1000, list(rng, room))).unwrap(), Said::Refused(refusal(11, 0)));
+                    assert_eq!(history.call(Call::Find(by(1000), list(rng, room))).unwrap(), Said::Refused(refusal(11, 0)));
                 }
-                assert_eq!(history.call(Call::Find(1001, list(rng, 0))).unwrap(), Said::Refused(refusal(3, 0)));
+                assert_eq!(history.call(Call::Find(by(1001), list(rng, 0))).unwrap(), Said::Refused(refusal(3, 0)));
             }
         }
         let mut with_one = history.memory.clone();
         assert_eq!(history.call(Call::Add(vec![])).unwrap(), Said::Added);
-        assert_eq!(history.call(Call::Find(1, list_for(rng, 200))).unwrap(), Said::Refused(refusal(11, 0)));
+        assert_eq!(history.call(Call::Find(by(1), list_for(rng, 200))).unwrap(), Said::Refused(refusal(11, 0)));
         assert_eq!(history.call(Call::Add(vec![])).unwrap(), Said::Refused(refusal(8, 0)));
         assert_eq!(history.call(Call::Read(b"     1  2\n".to_vec())).unwrap(), Said::Refused(refusal(8, 1)));
         let mut alone = History::fresh(Archive, rng, 3, 1, 1, 1).memory;
         for memory in [&mut with_one, &mut alone] {
             assert_eq!(compare(&mut Archive, memory, &Call::Read(b"     1  2\n".to_vec())).unwrap(), Said::Read(1));
         }
-        for threshold in [1, 500, 1000] {
+        for settings in [by(1), by(500), confident(1, 1000), by(1000)] {
             let lent = list_for(rng, 200);
             let said = [&mut with_one, &mut alone].map(|memory| {
                 let mut slice = lent.clone();
-                let said = Archive.find(memory, threshold, slice.get_mut());
+                let said = Archive.find(memory, settings, slice.get_mut());
                 (said, slice)
             });
             assert!(said[0].0.is_ok_and(|found| found.traces == 1 && found.listed > 0) && said[0] == said[1]);
@@ -239,7 +251,7 @@ fn only_empty_traces() {
     }
 }
 
-/// Two finds alike in N, threshold and traces of length 1 or more, whatever their order and however many empty ones are kept beside them,
+/// Two finds alike in N, settings and traces of length 1 or more, whatever their order and however many empty ones are kept beside them,
 /// give the same list and numbers.
 #[test]
 fn neither_order_nor_empty_traces_matter() {
@@ -248,7 +260,7 @@ fn neither_order_nor_empty_traces_matter() {
         let n = gen::activities(rng);
         let count = rng.within(1, 12);
         let traces: Vec<_> = gen::traces(rng, n, count, 10).into_iter().filter(|w| !w.is_empty()).collect();
-        let (threshold, lent) = (gen::threshold(rng), list_for(rng, 15000));
+        let (settings, lent) = (gen::settings(rng), list_for(rng, 15000));
         let mut lists = Vec::new();
         for _ in 0..2 {
             let mut kept = traces.clone();
@@ -259,10 +271,39 @@ fn neither_order_nor_empty_traces_matter() {
                 assert_eq!(history.call(Call::Add(trace.clone())).unwrap(), Said::Added);
             }
             let mut slice = lent.clone();
-            let said = Archive.find(&history.memory, threshold, slice.get_mut());
+            let said = Archive.find(&history.memory, settings, slice.get_mut());
             lists.push((said, slice));
         }
         assert!(lists[0] == lists[1]);
+    }
+}
+
+/// For every confidence as much is replayed and read, and with 0 the list is that of the threshold alone; a higher one leaves some rules out.
+#[test]
+fn confidence_changes_the_list_alone() {
+    let rng = &mut Rng::new(20);
+    for _ in 0..cases(40) {
+        let n = rng.within(1, 6) as u32;
+        let count = rng.within(1, 15);
+        let mut history = History::fresh(Archive, rng, n, 200, 20, 20);
+        for trace in gen::traces(rng, n, count, 9) {
+            assert_eq!(history.call(Call::Add(trace)).unwrap(), Said::Added);
+        }
+        let threshold = gen::settings(rng).threshold;
+        let mut before: Option<(FindAnswer, Vec<u16>)> = None;
+        for confidence in [0, 1, 333, 500, 501, 750, 999, 1000] {
+            let mut slice = list_for(rng, 500);
+            let Ok(found) = Archive.find(&history.memory, confident(threshold, confidence), slice.get_mut()) else { break };
+            let list = slice.get()[..NUMBERS * found.listed as usize].to_vec();
+            let mut rows = list.chunks(NUMBERS);
+            assert!(rows.all(|row| 1000 * row[3] as u32 >= confidence * row[4] as u32));
+            if let Some((answer, longer)) = before {
+                assert_eq!(FindAnswer { listed: answer.listed, ..found }, answer);
+                let mut longer = longer.chunks(NUMBERS);
+                assert!(list.chunks(NUMBERS).all(|row| longer.any(|other| other == row)));
+            }
+            before = Some((found, list));
+        }
     }
 }
 
@@ -273,6 +314,6 @@ fn a_find_at_the_limits() {
     let mut history = History::fresh(Archive, rng, 32, 20000, 4095, 4095);
     let traces: Vec<Vec<u8>> = (0..4095).map(|_| (0..4).map(|_| rng.below(32) as u8).collect()).collect();
     assert_eq!(history.call(Call::Read(gen::log(rng, &traces))).unwrap(), Said::Read(4095));
-    let said = history.call(Call::Find(100, list_for(rng, 15000))).unwrap();
+    let said = history.call(Call::Find(by(100), list_for(rng, 15000))).unwrap();
     assert!(matches!(said, Said::Found(FindAnswer { traces: 4095, .. })), "{said:?}");
 }

@@ -1,7 +1,7 @@
 //! The calls through the archive on records and buffers that no history made: unsound ones of each kind, sound ones at the
 //! limits, arbitrary ones. Answer, record and every byte lent are compared with the model.
 
-use budgieleaf_tests::calls::{Calls, FindAnswer};
+use budgieleaf_tests::calls::{Calls, FindAnswer, Settings};
 use budgieleaf_tests::capi::Archive;
 use budgieleaf_tests::gen;
 use budgieleaf_tests::lent::{Lent, Memory};
@@ -24,10 +24,10 @@ fn some_calls(rng: &mut Rng, memory: &Memory) -> Vec<Call> {
     let count = rng.below(4);
     let traces = gen::traces(rng, n, count, 4);
     let log = gen::maybe_damaged_log(rng, n, &traces);
-    let threshold = if rng.chance(15) { rng.pick(&[0, 1001, u32::MAX]) } else { gen::threshold(rng) };
+    let settings = if rng.chance(20) { gen::any_settings(rng) } else { gen::settings(rng) };
     let room = rng.pick(&[0, NUMBERS - 1, NUMBERS, 25 * NUMBERS, 250 * NUMBERS]);
     let list = Lent::new(rng, room, |rng| rng.next() as u16);
-    vec![Call::Add(trace), Call::Read(log), Call::Find(threshold, list)]
+    vec![Call::Add(trace), Call::Read(log), Call::Find(settings, list)]
 }
 
 /// Soundness, and each call on a copy of the memory.
@@ -99,7 +99,7 @@ fn slices_longer_than_32_bits_count() {
     assert_eq!((Archive.read(&mut memory, b"     1  0\n"), memory.record.traces), (Ok(1), 2));
     assert_eq!((memory.ends.get(), memory.words.get()), (&[9, 10, 7][..], &[1, 1, 9][..]));
     let mut list = vec![0u16; beyond];
-    let said = Archive.find(&memory, 1000, &mut list);
+    let said = Archive.find(&memory, Settings { threshold: 1000, confidence: 1000 }, &mut list);
     assert_eq!(said, Ok(FindAnswer { listed: 3, replayed: 8, traces: 2, events_read: 80 }));
-    assert_eq!(list[..4 * NUMBERS], [[1, 0, 0, 2], [7, 0, 0, 2], [8, 0, 0, 2], [0; NUMBERS]].concat());
+    assert_eq!(list[..4 * NUMBERS], [[1, 0, 0, 2, 2], [7, 0, 0, 2, 2], [8, 0, 0, 2, 2], [0; NUMBERS]].concat());
 }

@@ -22,7 +22,8 @@ fn the_plain_finder_agrees_with_the_model() {
             1 => memories::unsound(rng, case / 4 % UNSOUND.len()),
             _ => memories::sound(rng),
         };
-        let (threshold, room) = (gen::threshold(rng), rng.pick(&[2 * NUMBERS + 2, 100 * NUMBERS, 15000 * NUMBERS]));
+        let settings = if rng.chance(10) { gen::any_settings(rng) } else { gen::settings(rng) };
+        let room = rng.pick(&[2 * NUMBERS + 2, 100 * NUMBERS, 15000 * NUMBERS]);
         // The finder that does not look at the words answers as if they were right.
         let (events, ends) = (memory.events.get(), memory.ends.get());
         let mended = Memory::of(memory.record, events.to_vec(), ends.to_vec(), right_words(events, ends));
@@ -30,10 +31,10 @@ fn the_plain_finder_agrees_with_the_model() {
             .map(|which| {
                 let mut list = vec![7; room];
                 let said = match which {
-                    0 => Model.find(&memory, threshold, &mut list),
-                    1 => by_words(&automaton, &memory, threshold, &mut list),
-                    2 => Model.find(&mended, threshold, &mut list),
-                    _ => by_library(&automaton, &memory, threshold, &mut list),
+                    0 => Model.find(&memory, settings, &mut list),
+                    1 => by_words(&automaton, &memory, settings, &mut list),
+                    2 => Model.find(&mended, settings, &mut list),
+                    _ => by_library(&automaton, &memory, settings, &mut list),
                 };
                 (said, list)
             })

@@ -1,5 +1,6 @@
 //! The built program findrules on random logs, whole and damaged, against the independent implementation, byte for byte.
 
+use budgieleaf_tests::calls::Settings;
 use budgieleaf_tests::gen;
 use budgieleaf_tests::oracle::columns::written;
 use budgieleaf_tests::oracle::findrules::output;
@@ -29,7 +30,7 @@ fn some_log(rng: &mut Rng, n: u32) -> Vec<u8> {
 /// Random inputs made by a function of the case's number; each of these answers must come.
 fn random(name: &str, seed: u64, default: usize, answers: &[usize], make: impl Fn(&mut Rng, usize) -> Vec<u8>) {
     let mut rng = Rng::new(seed);
-    let mut tally = [0; 13];
+    let mut tally = [0; 16];
     for case in 0..cases(default) {
         let input = make(&mut rng, case);
         tally[check(&format!("{name}-{case}"), &mut rng, &input)] += 1;
@@ -44,7 +45,7 @@ fn random(name: &str, seed: u64, default: usize, answers: &[usize], make: impl F
 fn whole_logs() {
     random("whole", 1, 1500, &[0, 11], |rng, _| {
         let n = gen::activities(rng);
-        [gen::settings(n, gen::threshold(rng)), some_log(rng, n)].concat()
+        [gen::settings_line(n, gen::settings(rng)), some_log(rng, n)].concat()
     });
 }
 
@@ -54,7 +55,7 @@ fn logs_with_one_damage() {
         let n = gen::activities(rng);
         let mut log = some_log(rng, n);
         gen::damage_log(rng, case % gen::LOG_DAMAGES, n, &mut log);
-        [gen::settings(n, gen::threshold(rng)), log].concat()
+        [gen::settings_line(n, gen::settings(rng)), log].concat()
     });
 }
 
@@ -67,18 +68,18 @@ fn logs_with_several_damages() {
             let kind = rng.below(gen::LOG_DAMAGES);
             gen::damage_log(rng, kind, n, &mut log);
         }
-        [gen::settings(n, gen::threshold(rng)), log].concat()
+        [gen::settings_line(n, gen::settings(rng)), log].concat()
     });
 }
 
 #[test]
 fn damaged_settings() {
-    random("settings", 4, 1050, &[0, 2, 3, 4], |rng, case| {
+    random("settings", 4, 1350, &[0, 2, 3, 4, 15], |rng, case| {
         let n = gen::activities(rng);
-        let mut settings = gen::settings(n, gen::threshold(rng));
+        let mut settings = gen::settings_line(n, gen::settings(rng));
         gen::damage_settings(rng, case % gen::SETTINGS_DAMAGES, &mut settings);
-        if rng.chance(25) && settings.len() >= 8 {
-            let kind = rng.below(5);
+        if rng.chance(25) && settings.len() >= 12 {
+            let kind = rng.below(7);
             gen::damage_settings(rng, kind, &mut settings);
         }
         let mut log = some_log(rng, n);
@@ -118,14 +119,14 @@ fn faults_that_compete() {
             let kind = rng.below(gen::LOG_DAMAGES);
             gen::damage_log(rng, kind, n, &mut log);
         }
-        [gen::settings(n, gen::threshold(rng)), log].concat()
+        [gen::settings_line(n, gen::settings(rng)), log].concat()
     });
 }
 
 #[test]
 fn input_cut_anywhere() {
     let mut rng = Rng::new(5);
-    let whole = b"  3 500\n     1  0\n     1  2\n     4  1\n999999  0\n";
+    let whole = b"  3 500 500\n     1  0\n     1  2\n     4  1\n999999  0\n";
     for len in 0..=whole.len() {
         check(&format!("cut-{len}"), &mut rng, &whole[..len]);
     }
@@ -134,7 +135,7 @@ fn input_cut_anywhere() {
 #[test]
 fn arbitrary_bytes() {
     random("arbitrary", 6, 400, &[4], |rng, _| {
-        let len = rng.pick(&[5, 8, 18, 40, 300]);
+        let len = rng.pick(&[5, 12, 22, 40, 300]);
         let letters = rng.pick(&[&b" 0123456789\n"[..], b" 12\n", b"\0\xff \n19"]);
         (0..rng.below(len + 1)).map(|_| if rng.chance(95) { rng.pick(letters) } else { rng.byte() }).collect()
     });
@@ -153,7 +154,7 @@ fn traces_about_4096_long() {
             // A fault beyond the 4096th line.
             log[10 * 5000] = b'x';
         }
-        [gen::settings(n, gen::threshold(rng)), log].concat()
+        [gen::settings_line(n, gen::settings(rng)), log].concat()
     });
 }
 
@@ -166,7 +167,7 @@ fn traces_about_4095_in_number() {
             (0..count).map(|_| (0..rng.pick(&[1, 1, 1, 2])).map(|_| rng.below(n as usize) as u8).collect()).collect();
         let mut log = gen::log(rng, &traces);
         log.truncate(65520);
-        [gen::settings(n, gen::threshold(rng)), log].concat()
+        [gen::settings_line(n, gen::settings(rng)), log].concat()
     });
 }
 
@@ -175,11 +176,11 @@ fn input_about_65536_bytes_long() {
     random("long-input", 9, 12, &[0, 4, 12], |rng, case| {
         let n = rng.within(2, 9) as u32;
         let traces = gen::traces(rng, n, 2500, 20);
-        let mut input = [gen::settings(n, gen::threshold(rng)), gen::log(rng, &traces)].concat();
+        let mut input = [gen::settings_line(n, gen::settings(rng)), gen::log(rng, &traces)].concat();
         while input.len() < 66000 {
             input.extend(b"999999  0\n");
         }
-        input.truncate([65528, 65536, 65537, 65535, 65518, 65529, 65538, 66000][case % 8]);
+        input.truncate([65532, 65536, 65537, 65535, 65522, 65533, 65538, 66000][case % 8]);
         input
     });
     let mut rng = Rng::new(10);
@@ -188,9 +189,9 @@ fn input_about_65536_bytes_long() {
     }
 }
 
-/// Few traces over many activities and a low threshold: more than 8000 constraints are listed, or nearly as many.
+/// Few traces over many activities and a low threshold: more than 6400 constraints are listed, or nearly as many.
 #[test]
-fn lists_about_8000_long() {
+fn lists_about_6400_long() {
     random("long-lists", 11, 16, &[0, 10], |rng, _| {
         let n = rng.within(24, 32) as u32;
         let mut order: Vec<u8> = (0..n as u8).collect();
@@ -200,7 +201,11 @@ fn lists_about_8000_long() {
                 order[..rng.within(n as usize / 2, n as usize)].to_vec()
             })
             .collect();
-        [gen::settings(n, rng.pick(&[1, 1, 166, 200, 300])), gen::log(rng, &traces)].concat()
+        [
+            gen::settings_line(n, Settings { threshold: rng.pick(&[1, 1, 166, 200, 300]), confidence: rng.pick(&[0, 0, 1, 250]) }),
+            gen::log(rng, &traces),
+        ]
+        .concat()
     });
 }
 
@@ -210,16 +215,18 @@ fn rows_of_document_01() {
         compare("row", input, 1 << 20, &output(input));
         String::from_utf8(run(input, 1 << 20)).unwrap()
     };
-    let sample = said(b"  21000\n     1  0\n");
+    let sample = said(b"  21000   0\n     1  0\n");
     assert_eq!(sample.lines().next(), Some("    15    18     1        18"));
     assert_eq!(sample.lines().count(), 16);
-    let two = said(b"  21000\n     1  0\n     1  1\n     2  0\n     2  0\n     2  1\n");
+    let two = said(b"  21000   0\n     1  0\n     1  1\n     2  0\n     2  0\n     2  1\n");
     assert_eq!(two.lines().next(), Some("    18    44     2       220"));
     assert_eq!(two.lines().count(), 19);
-    assert!(said(b" 321000\n     1 31\n").starts_with("   "));
-    assert_eq!(said(b" 331000\n     1 31\n"), " 2     0\n");
-    let long = |len| said(&[b"  11000\n".to_vec(), b"     1  0\n".repeat(len)].concat());
-    assert!(long(4096).ends_with("     1     32768\n 1  0       1\n 2  0       1\n 3  0       1\n 7  0       1\n 8  0       1\n"));
+    assert!(said(b" 321000   0\n     1 31\n").starts_with("   "));
+    assert_eq!(said(b" 331000   0\n     1 31\n"), " 2     0\n");
+    let long = |len| said(&[b"  110001000\n".to_vec(), b"     1  0\n".repeat(len)].concat());
+    assert!(long(4096).ends_with(
+        "     1     32768\n 1  0       1    1\n 2  0       1    1\n 3  0       1    1\n 7  0       1    1\n 8  0       1    1\n"
+    ));
     assert_eq!(long(4097), " 7  4097\n");
 }
 

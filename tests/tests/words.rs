@@ -32,7 +32,7 @@ fn refusals() {
     let readme = in_readme("## Refusals", 4);
     let header: Vec<_> = in_header(" * REFUSALS", " * TEMPLATES").into_iter().filter(|row| row.len() == 4 && is_number(&row[0])).collect();
     assert_eq!(readme, header);
-    assert!(readme.iter().map(|row| row[0].clone()).eq((1..=14).map(|k| k.to_string())), "{readme:?}");
+    assert!(readme.iter().map(|row| row[0].clone()).eq((1..=15).map(|k| k.to_string())), "{readme:?}");
 }
 
 #[test]

@@ -21,6 +21,7 @@ reason_number Reason.NoTrace = 11
 reason_number Reason.TooMuchInput = 12
 reason_number Reason.NoConstraint = 13
 reason_number Reason.TooMany = 14
+reason_number Reason.ConfidenceOutOfRange = 15
 
 abbrev pub refusal_said : Refusal → Reply
 refusal_said refusal = refused (reason_number refusal.reason) refusal.detail

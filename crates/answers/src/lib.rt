@@ -20,6 +20,7 @@ pub enum Reason {
     TooMuchInput = 12,
     NoConstraint = 13,
     TooMany = 14,
+    ConfidenceOutOfRange = 15,
 }
 
 impl Reason {

@@ -363,6 +363,10 @@ pub range_same : (first more : ℕ) → range first more ≡ range_with_len firs
 range_same first zero = refl
 range_same first (suc more) = ap (λ l. first ∷ l) (range_same (suc first) more ∙ ap (λ n. range_with_len n more) (sym (add-one first)))
 
+pub range_last : (first more : ℕ) → range first (suc more) ≡ range first more ++ (first + more) ∷ []
+range_last first zero = rw add-zero refl
+range_last first (suc more) = ap (λ xs. first ∷ xs) (range_last (suc first) more ∙ rw (add-suc, suc-add) refl)
+
 pub range_length : (first more : ℕ) → length (range first more) ≡ more
 range_length first zero = refl
 range_length first (suc more) = ap suc (range_length (suc first) more)

@@ -1,12 +1,16 @@
 -- Stores into a list, one after the other.
 -- Assumes nothing.
-use Prim.Native.Nat.{ℕ, suc, ◌+◌, ◌≤◌, ◌<◌}
+use Prim.Native.Nat.{ℕ, suc, ◌+◌, ◌<◌}
 use native.Mathlib.Omega.{arith}
-use native.Mathlib.Nat.{add-zero, add-suc, suc-add}
+use native.Mathlib.Numerals.{add-one}
+use native.Mathlib.Nat.{zero-add, add-zero, add-suc, suc-add}
 use mathlib.Core.Path.{◌≡◌, refl, sym, ap, ◌∙◌}
-use mathlib.Core.List.{List, [], ◌∷◌, ◌++◌}
-use lib.ListN.{length, get_or, set, take, drop}
-use lib.Seq.{sets, drop-cons, get_or_at, set_at, take-suc, take_all, length-take-le, append_snoc}
+use mathlib.Core.List.{List, [], ◌∷◌, ◌++◌, map}
+use lib.ListN.{length, get_or, set, drop, get_or-append}
+use lib.Seq.{sets, drop-cons, get_or_at, set_at, append_snoc}
+use Rattle.std.proofs.lemmas.List.{length-map, map-append}
+use Rattle.base.specs.Lists.{range}
+use Rattle.base.proofs.Lists.{range_last, range_length, range_at}
 
 module _ {ℓ} {A : Type ℓ} where
   -- nothing can be stored into no list
@@ -19,22 +23,33 @@ module _ {ℓ} {A : Type ℓ} where
   sets_append [] ys l i = rw add-zero
   sets_append (x ∷ xs) ys l i = rw (add-suc, ← (suc-add i (length xs))) (sets_append xs ys (set l i x) (suc i))
 
--- ## A list whose front is new
+-- ## A list whose front is filled
 
-abbrev pub front : List ℕ → ℕ → List ℕ → List ℕ
-front new n l = take n new ++ drop n l
+-- the first values of a function, in the place of what there was
+abbrev pub filled : {A : Type 0} → (ℕ → A) → ℕ → List A → List A
+filled f n there = map f (range 0 n) ++ drop n there
 
-pub front_here : (new : List ℕ) (n : ℕ) (l : List ℕ) → n ≤ length new → n < length l → get_or (front new n l) n 0 ≡ get_or l n 0
-front_here new n l h k =
-    ap (λ r. get_or (take n new ++ r) n 0) (drop-cons l n 0 k) ∙ get_or_at (take n new) (get_or l n 0) (drop (suc n) l) 0 n (length-take-le n new h)
+module _ {A : Type 0} (f : ℕ → A) where
+  -- one more of them
+  pub filled_more : (k : ℕ) (there : List A) → k < length there → set (filled f k there) k (f k) ≡ filled f (k + 1) there
+  filled_more k there within =
+      let made = map f (range 0 k) in
+      let rest = drop (suc k) there in
+      let one_more : made ++ f k ∷ [] ≡ map f (range 0 (suc k)) =
+      sym (ap (map f) (range_last 0 k ∙ ap (λ n. range 0 k ++ n ∷ []) (zero-add k)) ∙ map-append f (range 0 k) (k ∷ [])) in
+      ap (λ there. set (made ++ there) k (f k)) (drop-cons there k (f k) within)
+      ∙ set_at made (get_or there k (f k)) rest (f k) k (length-map (range 0 k) f ∙ range_length 0 k)
+      ∙ sym (append_snoc made (f k) rest)
+      ∙ ap (λ made. made ++ rest) one_more
+      ∙ ap (λ n. filled f n there) (sym (add-one k))
 
-pub front_on : (new : List ℕ) (n : ℕ) (l : List ℕ) → n < length new → n < length l → set (front new n l) n (get_or new n 0) ≡ front new (suc n) l
-front_on new n l h k =
-    let rest = drop (suc n) l in
-    ap (λ r. set (take n new ++ r) n (get_or new n 0)) (drop-cons l n 0 k)
-    ∙ set_at (take n new) (get_or l n 0) rest (get_or new n 0) n (length-take-le n new (omega arith))
-    ∙ sym (append_snoc (take n new) (get_or new n 0) rest)
-    ∙ ap (λ r. r ++ rest) (sym (take-suc new n 0 h))
+  -- and the next is what was there
+  pub filled_next : (k : ℕ) (there : List A) (d : A) → k < length there → get_or (filled f k there) k d ≡ get_or there k d
+  filled_next k there d within =
+      let made = map f (range 0 k) in
+      ap (λ there. get_or (made ++ there) k d) (drop-cons there k d within)
+      ∙ get_or_at made (get_or there k d) (drop (suc k) there) d k (length-map (range 0 k) f ∙ range_length 0 k)
 
-pub front_all : (new : List ℕ) (n : ℕ) (l : List ℕ) → length new ≡ n → front new n l ≡ new ++ drop n l
-front_all new n l e = ap (λ r. r ++ drop n l) (take_all n new (omega arith))
+  pub filled_at : (n : ℕ) (there : List A) (d : A) (k : ℕ) → k < n → get_or (filled f n there) k d ≡ f k
+  filled_at n there d k within =
+      get_or-append (map f (range 0 n)) (drop n there) d k (omega (arith, length-map (range 0 n) f, range_length 0 n)) ∙ range_at f n k d within

@@ -14,7 +14,7 @@ use Rattle.eventlog.specs.Words.{word_of}
 use Rattle.eventlog.specs.Calls.{empty, declared_front, Opens, Adds}
 use Rattle.columns.specs.Calls.{Reads}
 use Rattle.columns.specs.Log.{lines, log_checks, spelled}
-use Rattle.pruning.specs.Question.{fulfilments, support}
+use Rattle.pruning.specs.Question.{fulfilments, activations, support}
 use Rattle.discovery.specs.Listing.{listed, replayed, events_read, layout}
 use Rattle.discovery.specs.Calls.{Finds}
 use Rattle.history.specs.Ledger.{find}
@@ -62,7 +62,7 @@ module _ (number : ℕ) (answer : List ℕ) where
   pub find_accepted :
       (left : List ℕ) → Replied (Finds last by_all list) number left answer →
       (number ≡ 0) × (answer ≡ 4 ∷ 8 ∷ 2 ∷ 24 ∷ []) × (left ≡ four ++ 9 ∷ 9 ∷ [])
-  unfolding sound word_of last_end kept constraints fulfilments support listed replayed events_read layout fulfilled activated holds meanings
+  unfolding sound word_of last_end kept constraints fulfilments activations support listed replayed events_read layout fulfilled activated holds meanings
   find_accepted left = replied
 
 -- ## The two histories
@@ -117,14 +117,14 @@ are_alike_from_c = record { activities = are_alike.activities; settings = refl; 
 pub are_equal_from_c : EqualFromC one_from_c other_from_c
 are_equal_from_c = record { listed = 4; replayed = 8; all = 2; handed = 24; answer = refl; answer' = refl; lists = refl }
 
--- of any two equal finds that list four constraints the four numbers and the first sixteen of the lists are equal
+-- of any two equal finds that list four constraints the four numbers and the first twenty of the lists are equal
 pub equal_fronts_from_c :
     (f g : FindFromC) → EqualFromC f g → f.shown.answer ≡ 4 ∷ 8 ∷ 2 ∷ 24 ∷ [] →
-    (g.shown.answer ≡ 4 ∷ 8 ∷ 2 ∷ 24 ∷ []) × (take 16 f.shown.list ≡ take 16 g.shown.list)
+    (g.shown.answer ≡ 4 ∷ 8 ∷ 2 ∷ 24 ∷ []) × (take 20 f.shown.list ≡ take 20 g.shown.list)
 equal_fronts_from_c f g e four =
     let same = sym e.answer ∙ four in
     let listed : e.listed ≡ 4 = cc in
-    (e.answer' ∙ same, subst (λ n. take (4 * n) f.shown.list ≡ take (4 * n) g.shown.list) listed e.lists)
+    (e.answer' ∙ same, subst (λ n. take (5 * n) f.shown.list ≡ take (5 * n) g.shown.list) listed e.lists)
 
 -- ## What the claims' words say
 

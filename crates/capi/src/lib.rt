@@ -108,13 +108,17 @@ pub extern "C" fn budgieleaf_find(
     ends: &[u32],
     words: &[u32],
     threshold: u32,
+    confidence: u32,
     list: &mut [u16],
     answer: &mut [u64; ANSWER],
 ) -> u32
-    ensures { CalledFromC (lent store.now events.now ends.now words.now) (find_of (record { threshold = threshold }) list.old)
+    ensures { CalledFromC (lent store.now events.now ends.now words.now) (find_of (record { threshold = threshold; confidence = confidence }) list.old)
         (to_c result answer.new list.new) (lent store.exit.now events.exit.now ends.exit.now words.exit.now) }
 {
-    let settings = Settings { threshold };
+    let settings = Settings {
+        threshold,
+        confidence,
+    };
     put(
         answer,
         discovery::find(*store, events, ends, words, settings, list),

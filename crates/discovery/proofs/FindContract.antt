@@ -8,23 +8,24 @@ use native.Mathlib.Omega.{arith}
 use borrow.Author.Tests.{ltb-false, lt-ltb, le-ltb, ne_eqb, not-false}
 use lib.Dec.{eqb, ltb}
 use lib.ListN.{length}
-use Rattle.base.specs.Checks.{gives, reply}
+use Rattle.base.specs.Checks.{◌refuses◌with◌, gives, reply}
 use Rattle.std.specs.Prelude.{if◌then◌else◌}
-use Rattle.base.proofs.Checks.{NoneFail}
-use Rattle.base.proofs.Outcomes.{outcome_accepted}
+use Rattle.base.proofs.Checks.{NoneFail, none_fail, refused_same, decision, followed_by, decision_append}
+use Rattle.base.proofs.Outcomes.{outcome_refused, outcome_accepted}
 use Rattle.base.proofs.Lists.{count_at_most}
 use Rattle.base.proofs.Stores.{sets_none}
 use Rattle.eventlog.specs.Store.{Memory, sound}
 use Rattle.answers.specs.declared.Reason.TheVariants.{ListTooShort}
 use Rattle.answers.specs.declared.Refusal.{Refusal}
+use Rattle.answers.specs.Answers.{refusal_said}
 use Rattle.std.specs.Prelude.{Result, Ok, Err}
 use Rattle.discovery.specs.declared.list.Tally.{Tally}
 use Rattle.pruning.specs.declared.Settings.{Settings}
 use Rattle.declare.specs.Constraints.{constraints}
 use Rattle.pruning.specs.Question.{Question, asked, trace_count}
 use Rattle.discovery.specs.Listing.{is_listed, listed, replayed, events_read, numbers, layout}
-use Rattle.pruning.specs.Question.{threshold_in_range}
-use Rattle.discovery.specs.Calls.{Finds, find_checks, checks_of_find, find_values, with_list}
+use Rattle.pruning.specs.Question.{threshold_in_range, confidence_in_range}
+use Rattle.discovery.specs.Calls.{Finds, settings_checks, find_checks, checks_of_find, find_values, with_list}
 use Rattle.discovery.specs.Passes.{Considers, none_yet, fit_of}
 
 -- ## Passing over all constraints
@@ -76,27 +77,42 @@ all_fit q list fits = list_fits _ list (omega (arith, count_at_most (is_listed q
 
 -- ## Answers
 
+-- what the settings refuse is the answer
+pub settings_refused :
+    (m : Memory) (settings : Settings) (list : List ℕ) (refusal : Refusal) → sound m ≡ true →
+    refusal_said refusal ≡ reply (settings_checks settings) [] → Finds m settings list (refusal_said refusal) list
+settings_refused m settings list refusal is_sound e =
+    let q = asked m settings in
+    let rest =
+    (eqb (trace_count q) 0 refuses 11 with 0) ∷ (ltb (length list) (numbers * length (listed q)) refuses 10 with length (listed q)) ∷ [] in
+    let decides : decision (checks_of_find m settings list) ≡ refusal_said refusal =
+    rw is_sound (decision_append (settings_checks settings) rest ∙ ap (λ said. followed_by said (decision rest)) (sym e)) in
+    outcome_refused (sym (refused_same (checks_of_find m settings list) [] (find_values q) _ _ decides)) refl
+
 -- where each check passes, find answers by what passing over the constraints makes of the list
 module _ (m : Memory) (settings : Settings) {list list' : List ℕ} {t : Tally} {traces : ℕ} {u : Unit {0}} where
   pub finds_listed :
-      sound m ≡ true → threshold_in_range settings ≡ true → traces ≡ trace_count (asked m settings) → (traces ≡ 0 → ⊥) →
+      sound m ≡ true → gives [] ≡ reply (settings_checks settings) [] → traces ≡ trace_count (asked m settings) → (traces ≡ 0 → ⊥) →
       fit_of (length (listed (asked m settings))) list ≡ Ok u →
       Considers (asked m settings) (constraints m.store.activities) none_yet list t list' →
       Finds m settings list (gives (t.listed ∷ t.replayed ∷ traces ∷ t.events_read ∷ [])) list'
-  finds_listed is_sound ranged same some fit p =
+  finds_listed is_sound settings_pass same some fit p =
       let q = asked m settings in
+      let (ranged, (confidence, _)) = none_fail (settings_checks settings) [] [] (sym settings_pass) in
       let not_none = ne_eqb (trace_count q) 0 (λ none. some (same ∙ none)) in
       let says : reply (checks_of_find m settings list) (find_values q) ≡ gives (find_values q) =
-      simp (is_sound, ranged, not_none, le-ltb (length list) _ (fits_told _ list fit)) in
+      simp (is_sound, ranged, confidence, not_none, le-ltb (length list) _ (fits_told _ list fit)) in
       let values : t.listed ∷ t.replayed ∷ traces ∷ t.events_read ∷ [] ≡ find_values q =
       cc (passed_listed p, passed_replayed p, same, passed_read p) in
       outcome_accepted (ap gives values ∙ sym says) refl (passed_written p)
 
 -- what is known where every check of find passes
 pub record FindPassed (q : Question) (list : List ℕ) : Type 0 where
-  pub ranged : threshold_in_range q.settings ≡ true
+  pub threshold : threshold_in_range q.settings ≡ true
+  pub confidence : confidence_in_range q.settings ≡ true
   pub some : eqb (trace_count q) 0 ≡ false
   pub fits : numbers * length (listed q) ≤ length list
 
 pub find_passed : (q : Question) (list : List ℕ) → NoneFail (find_checks q list) → FindPassed q list
-find_passed q list (ranged, (some, (fits, _))) = record { ranged = not-false _ ranged; some = some; fits = ltb-false _ _ fits }
+find_passed q list (ranged, (confidence, (some, (fits, _)))) =
+    record { threshold = not-false _ ranged; confidence = not-false _ confidence; some = some; fits = ltb-false _ _ fits }

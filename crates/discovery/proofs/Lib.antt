@@ -1,4 +1,5 @@
 pub mod ByTraces
+pub mod Confidence
 pub mod FindContract
 pub mod Listing
 pub mod Orderless

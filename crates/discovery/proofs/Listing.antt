@@ -5,7 +5,9 @@ use mathlib.Core.Path.{◌≡◌, refl, ap, ◌∙◌}
 use mathlib.Core.List.{List, [], ◌∷◌, ◌++◌}
 use native.Mathlib.Omega.{arith}
 use lib.ListN.{length}
+use mathlib.Core.Bool.{true}
 use Rattle.std.specs.List.{filter}
+use Rattle.base.proofs.Bools.{and_left}
 use Rattle.base.specs.Lists.{flat_map}
 use Rattle.base.proofs.Lists.{count_weaker, count_at_most, flat_map_append}
 use Rattle.eventlog.specs.Store.{kept, total}
@@ -14,14 +16,14 @@ use Rattle.eventlog.proofs.Totals.{total_at_most, total_non_empty, total_each_at
 use Rattle.declare.specs.declared.constraints.Constraint.{Constraint}
 use Rattle.declare.specs.Constraints.{constraints, AtMostAll, Exactly}
 use Rattle.declare.proofs.constraints.Members.{filter_exactly, constraints_number}
-use Rattle.pruning.specs.Question.{Question, asked, reads, survives}
+use Rattle.pruning.specs.Question.{Question, asked, measure_of, meets, confident, reads, fulfilments, activations, survives}
 use Rattle.discovery.specs.Claims.{ReadAtMost}
 use Rattle.discovery.specs.declared.row.Counts.{Counts}
 use Rattle.discovery.specs.declared.row.Row.{Row}
 use Rattle.discovery.specs.Listing.{is_listed, listed, replayed, events_read, numbers, rows, in_row, from_row, counts_of, layout}
 use Rattle.pruning.proofs.Pruning.{fulfilled_survives}
 
--- the list has exactly the constraints whose count meets the threshold
+-- the list has exactly the constraints whose counts meet the threshold and the confidence
 pub listed_exactly : (q : Question) → Exactly q.activities (is_listed q) (listed q)
 unfolding listed
 listed_exactly q = filter_exactly q.activities _
@@ -36,10 +38,14 @@ pub replayed_at_most : (q : Question) → AtMostAll q.activities (length (replay
 unfolding replayed
 replayed_at_most q = omega (arith, count_at_most (survives q) (constraints q.activities), constraints_number q.activities)
 
+-- what is listed, pruning keeps: its count meets the threshold
+pub listed_survives : (q : Question) (c : Constraint) → is_listed q c ≡ true → survives q c ≡ true
+listed_survives q c h = fulfilled_survives q c (and_left (meets (measure_of q) (fulfilments q.traces c)) (confident q.settings (fulfilments q.traces c) (activations q.traces c)) h)
+
 -- what is listed was replayed
 pub listed_within_replayed : (q : Question) → length (listed q) ≤ length (replayed q)
 unfolding listed replayed
-listed_within_replayed q = count_weaker _ _ (fulfilled_survives q) (constraints q.activities)
+listed_within_replayed q = count_weaker _ _ (listed_survives q) (constraints q.activities)
 
 -- ## Events read
 

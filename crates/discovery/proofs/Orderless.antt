@@ -1,7 +1,7 @@
 -- The order of the traces and the empty ones among them are nothing to discovery: alike traces have equal counts, lists and numbers.
 -- Assumes nothing.
 use Prim.Native.Nat.{ℕ, suc, ◌≤◌}
-use mathlib.Core.Path.{◌≡◌, refl, sym, ap, ◌∙◌, fun_ext}
+use mathlib.Core.Path.{◌≡◌, refl, sym, ap, ap₂, ◌∙◌, fun_ext}
 use mathlib.Core.Logic.{◌↔◌, ∥∥₁_elim}
 use mathlib.Core.Bool.{Bool, true, false, ◌&&◌, ◌||◌}
 use mathlib.Core.List.Permᴰ
@@ -11,14 +11,14 @@ use native.Mathlib.Nat.{ℕ_set}
 use borrow.Author.Tests.{eqb-true, eq-eqb}
 use lib.Dec.{eqb}
 use Rattle.std.specs.Prelude.{if◌then◌else◌}
-use Rattle.declare.specs.Meaning.{fulfilled}
+use Rattle.declare.specs.Meaning.{activated, fulfilled}
 use Rattle.declare.specs.declared.constraints.Constraint.{Constraint}
 use Rattle.std.specs.List.{filter}
 use Rattle.base.specs.Lists.{non_empty, count, equal_lists}
 use Rattle.eventlog.proofs.Totals.{total_permuted, total_each_same}
 use Rattle.pruning.specs.declared.Settings.{Settings}
-use Rattle.pruning.specs.Question.{Question, question_over, trace_count, measure_of, meets, reads, fulfilments, class_of, support, always, survives}
-use Rattle.discovery.specs.Listing.{rows, is_listed, events_read, layout}
+use Rattle.pruning.specs.Question.{Question, question_over, trace_count, measure_of, meets, reads, fulfilments, activations, class_of, support, always, survives}
+use Rattle.discovery.specs.Listing.{lists, rows, counts_of, is_listed, events_read, layout}
 use Rattle.discovery.specs.Claims.{Alike}
 use Rattle.base.proofs.Lists.{equal_lists_same, equal_lists_refl, count_cons, count_filter, count_none, permuted_length, permuted_count}
 
@@ -121,6 +121,13 @@ module _ (q q' : Question) (alike : AlikeQuestions q q') where
   unfolding fulfilments
   same_fulfilments = fun_ext (λ c. permuted_count (fulfilled c.template c.a c.b) alike.traces)
 
+  same_activations : activations q.traces ≡ activations q'.traces
+  unfolding activations
+  same_activations = fun_ext (λ c. permuted_count (activated c.template c.a c.b) alike.traces)
+
+  same_counts : counts_of q ≡ counts_of q'
+  same_counts = ap₂ (λ f g c. record { fulfilled = f c; activated = g c }) same_fulfilments same_activations
+
   same_support : (c : Constraint) → support (class_of c.template) q.traces c ≡ support (class_of c.template) q'.traces c
   unfolding support
   same_support c = permuted_count _ alike.traces
@@ -129,7 +136,8 @@ module _ (q q' : Question) (alike : AlikeQuestions q q') where
   meets_alike e = cc (ap (λ (s : Settings). s.threshold) alike.settings, trace_count_alike)
 
   pub is_listed_alike : is_listed q ≡ is_listed q'
-  is_listed_alike = fun_ext (λ c. meets_alike (ap (λ f. f c) same_fulfilments))
+  is_listed_alike =
+      λ i c. lists (record { activities = alike.activities i; settings = alike.settings i; traces = trace_count_alike i }) (same_counts i c)
 
   pub survives_alike : survives q ≡ survives q'
   survives_alike = fun_ext (λ c. ap (λ p. always (class_of c.template) || p) (meets_alike (same_support c)))
@@ -141,4 +149,4 @@ module _ (q q' : Question) (alike : AlikeQuestions q q') where
 
   pub layout_alike : (cs : List Constraint) → layout q cs ≡ layout q' cs
   unfolding layout
-  layout_alike cs = ap (λ f. rows (λ c. record { fulfilled = f c }) cs) same_fulfilments
+  layout_alike cs = ap (λ counts. rows counts cs) same_counts

@@ -9,12 +9,15 @@ use Rattle.eventlog.specs.Store.{Memory}
 use Rattle.eventlog.specs.Calls.{unsound}
 use Rattle.discovery.specs.declared.Found.{Found}
 use Rattle.pruning.specs.declared.Settings.{Settings}
-use Rattle.pruning.specs.Question.{Question, asked, trace_count, threshold_in_range}
+use Rattle.pruning.specs.Question.{Question, asked, trace_count, threshold_in_range, confidence_in_range}
 use Rattle.discovery.specs.Listing.{listed, replayed, events_read, numbers, layout}
 
--- threshold not 1 to 1000
+-- threshold not 1 to 1000; "15 when k is above 1000, tested right after 3"
 abbrev pub settings_checks : Settings → List Check
-settings_checks settings = (not (threshold_in_range settings) refuses 3 with 0) ∷ []
+settings_checks settings =
+    (not (threshold_in_range settings) refuses 3 with 0) ∷
+    (not (confidence_in_range settings) refuses 15 with 0) ∷
+    []
 
 -- the checks of find, where so many constraints are to be listed
 abbrev pub checks_for : ℕ → Question → List ℕ → List Check

@@ -1,11 +1,14 @@
-// Discovery (document 01: finding) over a store of traces: what pruning keeps is replayed, and what meets the threshold is listed.
+// Discovery (document 01: finding) over a store of traces: what pruning keeps is replayed, and what meets the threshold and the confidence is listed.
 #![tactic(auto)]
 
 mod list;
 mod row;
 
+ghost use Rattle.std.specs.Prelude.{◌≡◌, []};
+ghost use Rattle.base.specs.Checks.{reply};
+ghost use Rattle.answers.specs.Answers.{done_said};
 ghost use Rattle.eventlog.specs.Store.{lent};
-ghost use Rattle.discovery.specs.Calls.{Finds, find_said};
+ghost use Rattle.discovery.specs.Calls.{settings_checks, Finds, find_said};
 
 use answers::{Reason, Refusal};
 use eventlog::{SoundStore, Store};
@@ -24,6 +27,19 @@ pub struct Found {
     pub events_read: u64,
 }
 
+// Whether a find can be asked by these settings: the threshold is looked at first, and then the confidence.
+pub fn check(settings: Settings) -> Result<(), Refusal>
+    ensures { done_said result ≡ reply (settings_checks settings) [] }
+{
+    if !settings.threshold_in_range() {
+        return Err(Reason::ThresholdOutOfRange.into());
+    }
+    if !settings.confidence_in_range() {
+        return Err(Reason::ConfidenceOutOfRange.into());
+    }
+    Ok(())
+}
+
 // Document 01's find, over any record, buffers, settings and slice. What is needed is known before the first number is written.
 // The record and its buffers are lent apart, as C lends them.
 pub fn find(
@@ -37,9 +53,7 @@ pub fn find(
     ensures { Finds (lent store events.now ends.now words.now) settings list.old (find_said result) list.new }
 {
     let sound = SoundStore::new(store, events, ends, words).ok_or(Reason::NotSound)?;
-    if !settings.in_range() {
-        return Err(Reason::ThresholdOutOfRange.into());
-    }
+    check(settings)?;
     let query = Query::new(sound, settings);
     if query.measure.traces == 0 {
         return Err(Reason::NoTrace.into());

@@ -1,7 +1,9 @@
 // The list: passing over the constraints, and entering those to be listed.
 ghost use Rattle.std.specs.Prelude.{◌≡◌, [], ◌∷◌, length};
 ghost use Rattle.declare.specs.Constraints.{constraints};
-ghost use Rattle.discovery.specs.Listing.{listed};
+ghost use Rattle.pruning.specs.Question.{activations};
+ghost use Rattle.pruning.specs.Masks.{activated_by};
+ghost use Rattle.discovery.specs.Listing.{lists, listed};
 ghost use Rattle.replay.specs.Query.{asked_by};
 ghost use Rattle.replay.specs.Replays.{Replayable};
 ghost use Rattle.discovery.specs.Passes.{Passes, Considers, TallyFits, none_yet, fit_of};
@@ -9,7 +11,7 @@ ghost use Rattle.discovery.specs.Passes.{Passes, Considers, TallyFits, none_yet,
 use crate::row::{Counts, NUMBERS, write};
 use answers::{Reason, Refusal};
 use declare::Constraint;
-use pruning::{Frequent, Measure, Walk};
+use pruning::{Measure, PairSupport, Walk};
 use replay::{Query, replay};
 
 // How many constraints so far are listed, how many were replayed, and how many events they have read.
@@ -20,27 +22,44 @@ pub struct Tally {
     pub events_read: u64,
 }
 
-// Enters a constraint of known counts, wherever they come from: it is written where they meet the threshold. How many are listed then has 64
-// bits, in which one more than any 32-bit number fits.
+// Whether a constraint of these counts is listed: they meet the threshold, and the confidence.
+fn lists(measure: Measure, counts: Counts) -> bool
+    ensures { result ≡ lists measure counts }
+{
+    let fulfilled = u32::from(counts.fulfilled);
+    let activated = u32::from(counts.activated);
+    measure.meets(fulfilled) && measure.settings.confident(fulfilled, activated)
+}
+
+// Enters a constraint of known counts, wherever they come from: it is written where they list it. How many are listed then has 64 bits, in which
+// one more than any 32-bit number fits.
 fn enter(measure: Measure, c: Constraint, counts: Counts, listed: u32, list: &mut [u16]) -> u64
     ensures { Passes measure (λ c. counts) (c ∷ []) listed list.old result list.new }
 {
-    if !measure.meets(u32::from(counts.fulfilled)) {
+    if !lists(measure, counts) {
         return u64::from(listed);
     }
     write(list, listed, c, counts);
     u64::from(listed) + 1
 }
 
-// Passes over a constraint that pruning keeps: it is replayed, and entered with its counts.
-fn consider(query: Query, c: Constraint, tally: Tally, list: &mut [u16]) -> Tally
+// Passes over a constraint that pruning keeps: it is replayed, and entered with its counts. Those in which it is activated are known without replay.
+fn consider(
+    query: Query,
+    pairs: &PairSupport,
+    c: Constraint,
+    tally: Tally,
+    list: &mut [u16],
+) -> Tally
     requires replayable { Replayable (asked_by query) c tally.events_read }
+    requires counted { activated_by pairs.now query.measure.traces c ≡ activations (asked_by query).traces c }
     requires tally_fits { TallyFits query.measure.activities tally }
     ensures { Considers (asked_by query.entry) (c ∷ []) tally list.old result list.new }
 {
     let replayed = replay(query, c, tally.replayed, tally.events_read);
     let counts = Counts {
         fulfilled: replayed.fulfilled as u16,
+        activated: pairs.activated(query.measure.traces, c) as u16,
     };
     Tally {
         listed: enter(query.measure, c, counts, tally.listed, list) as u32,
@@ -59,10 +78,10 @@ pub(crate) fn pass(query: Query, list: &mut [u16]) -> Tally
         replayed: 0,
         events_read: 0,
     };
-    let mut frequent = Frequent::none();
-    frequent.count(query.measure, query.kept.words());
-    for c in Walk::over(query.measure.activities as u8, &frequent) {
-        tally = consider(query, c, tally, list);
+    let mut pairs = PairSupport::none();
+    pairs.count(query.measure, query.kept.words());
+    for c in Walk::over(query.measure.activities as u8, &pairs) {
+        tally = consider(query, &pairs, c, tally, list);
     }
     tally
 }

@@ -6,12 +6,14 @@ ghost use Rattle.discovery.specs.Listing.{numbers, row as row_of, in_row, from_r
 use declare::Constraint;
 
 // The numbers that a constraint takes in the list.
-pub const NUMBERS: usize = 4;
+pub const NUMBERS: usize = 5;
 
-// What is counted for a constraint: the fulfilled traces. The list's numbers have 16 bits, and no store keeps more traces.
+// What is counted for a constraint: the fulfilled traces, and those in which it is activated. The list's numbers have 16 bits, and no store keeps
+// more traces.
 #[derive(Clone, Copy, Debug, PartialEq, Eq)]
 pub struct Counts {
     pub fulfilled: u16,
+    pub activated: u16,
 }
 
 // A constraint and its counts, as they stand in the list.
@@ -21,25 +23,33 @@ pub struct Row {
     pub a: u16,
     pub b: u16,
     pub fulfilled: u16,
+    pub activated: u16,
 }
 
 impl Row {
     pub(crate) fn numbers(self) -> [u16; NUMBERS]
         ensures { result ≡ in_row self }
     {
-        [self.template, self.a, self.b, self.fulfilled]
+        [
+            self.template,
+            self.a,
+            self.b,
+            self.fulfilled,
+            self.activated,
+        ]
     }
 }
 
 impl From<[u16; NUMBERS]> for Row {
     ghost from_gives = { λ columns row. row ≡ from_row columns };
 
-    fn from([template, a, b, fulfilled]: [u16; NUMBERS]) -> Row {
+    fn from([template, a, b, fulfilled, activated]: [u16; NUMBERS]) -> Row {
         Row {
             template,
             a,
             b,
             fulfilled,
+            activated,
         }
     }
 }
@@ -73,6 +83,7 @@ pub(crate) fn write(list: &mut [u16], listed: u32, c: Constraint, counts: Counts
         a: u16::from(c.a),
         b: u16::from(c.b),
         fulfilled: counts.fulfilled,
+        activated: counts.activated,
     };
     put_row(list, NUMBERS * (listed as usize), &row.numbers());
 }

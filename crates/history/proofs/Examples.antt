@@ -17,7 +17,7 @@ use Rattle.eventlog.specs.Words.{word_of}
 use Rattle.eventlog.specs.Calls.{declared_front}
 use Rattle.columns.specs.Log.{lines, log_checks, spelled}
 use Rattle.pruning.specs.declared.Settings.{Settings}
-use Rattle.pruning.specs.Question.{Question, asked, fulfilments, support}
+use Rattle.pruning.specs.Question.{Question, asked, fulfilments, activations, support}
 use Rattle.discovery.specs.Listing.{listed, replayed, events_read, layout}
 use Rattle.discovery.specs.Claims.{ReadAtMost}
 use Rattle.discovery.proofs.Orderless.{alike_just_permuted}
@@ -29,17 +29,17 @@ use Rattle.history.proofs.Existence.{histories_exist}
 abbrev pub keeping : ℕ → Store
 keeping traces = record { activities = 1; traces = traces }
 
--- what all traces fulfil
+-- what all traces fulfil, whenever it applies
 abbrev pub by_all : Settings
-by_all = record { threshold = 1000 }
+by_all = record { threshold = 1000; confidence = 1000 }
 
 -- of the traces 0 and 0 0: the list as it is laid out, and the numbers
 abbrev pub four : List ℕ
 four =
-    1 ∷ 0 ∷ 0 ∷ 2 ∷
-    6 ∷ 0 ∷ 0 ∷ 2 ∷
-    7 ∷ 0 ∷ 0 ∷ 2 ∷
-    8 ∷ 0 ∷ 0 ∷ 2 ∷
+    1 ∷ 0 ∷ 0 ∷ 2 ∷ 2 ∷
+    6 ∷ 0 ∷ 0 ∷ 2 ∷ 2 ∷
+    7 ∷ 0 ∷ 0 ∷ 2 ∷ 2 ∷
+    8 ∷ 0 ∷ 0 ∷ 2 ∷ 2 ∷
     []
 
 abbrev pub four_found : Reply
@@ -87,18 +87,18 @@ is_history = (
 
 -- a slice with room for the list and two numbers more
 abbrev pub list : List ℕ
-list = replicate 18 9
+list = replicate 22 9
 
 abbrev pub found : Shown
 found = record { said = four_found; list = four ++ 9 ∷ 9 ∷ [] }
 
 pub finds : Called last (find by_all list) found last
-unfolding sound word_of last_end kept constraints fulfilments support listed replayed events_read layout fulfilled activated holds meanings
+unfolding sound word_of last_end kept constraints fulfilments activations support listed replayed events_read layout fulfilled activated holds meanings
 finds = (some_outcome, refl)
 
 -- a slice one number too short
-pub too_short : Called last (find by_all (replicate 15 9)) (record { said = refused 10 4; list = replicate 15 9 }) last
-unfolding sound word_of last_end kept constraints fulfilments support listed replayed events_read layout fulfilled activated holds meanings
+pub too_short : Called last (find by_all (replicate 19 9)) (record { said = refused 10 4; list = replicate 19 9 }) last
+unfolding sound word_of last_end kept constraints fulfilments activations support listed replayed events_read layout fulfilled activated holds meanings
 too_short = (some_outcome, refl)
 
 abbrev pub one : FindIn
@@ -147,13 +147,13 @@ is_history' = (
 )
 
 abbrev pub list' : List ℕ
-list' = replicate 17 3
+list' = replicate 21 3
 
 abbrev pub found' : Shown
 found' = record { said = four_found; list = four ++ 3 ∷ [] }
 
 pub finds' : Called last' (find by_all list') found' last'
-unfolding sound word_of last_end kept constraints fulfilments support listed replayed events_read layout fulfilled activated holds meanings
+unfolding sound word_of last_end kept constraints fulfilments activations support listed replayed events_read layout fulfilled activated holds meanings
 finds' = (some_outcome, refl)
 
 abbrev pub other : FindIn
@@ -221,14 +221,14 @@ are_alike =
 pub are_equal : EqualFinds one other
 are_equal = record { listed = 4; replayed = 8; all = 2; handed = 24; said = refl; said' = refl; lists = refl }
 
--- of any two equal finds that list four constraints the numbers and the first sixteen of the lists are equal
+-- of any two equal finds that list four constraints the numbers and the first twenty of the lists are equal
 pub equal_fronts :
     (f g : FindIn) → EqualFinds f g → f.shown.said ≡ four_found →
-    (g.shown.said ≡ four_found) × (take 16 f.shown.list ≡ take 16 g.shown.list)
+    (g.shown.said ≡ four_found) × (take 20 f.shown.list ≡ take 20 g.shown.list)
 equal_fronts f g e four =
     let same = sym e.said ∙ four in
     let listed : e.listed ≡ 4 = cc in
-    (e.said' ∙ same, subst (λ n. take (4 * n) f.shown.list ≡ take (4 * n) g.shown.list) listed e.lists)
+    (e.said' ∙ same, subst (λ n. take (5 * n) f.shown.list ≡ take (5 * n) g.shown.list) listed e.lists)
 
 -- ## What the claims' words say
 

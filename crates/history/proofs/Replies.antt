@@ -34,7 +34,7 @@ pub find_refused :
     reply (checks_for needed q list) values ≡ refused number detail → 2 ≤ number
 find_refused needed q list values number detail =
     refused_each Above1 (checks_for needed q list) values number detail
-    (omega arith, λ _. (omega arith, λ _. (omega arith, λ _. tt)))
+    (omega arith, λ _. (omega arith, λ _. (omega arith, λ _. (omega arith, λ _. tt))))
 
 -- what a ledger refuses it refuses under a number from 2
 pub ledger_refused :

@@ -110,7 +110,7 @@ ledger_of f = ledger_after f.start f.before
 abbrev pub question_of : {A : Type 0} {Step : StepOf A} → FindBy Step → Question
 question_of f = question (ledger_of f) f.settings
 
--- What a find shows. `listed` has exactly the constraints whose count meets the threshold and `replayed` exactly those that pruning
+-- What a find shows. `listed` has exactly the constraints that meet the threshold and the confidence and `replayed` exactly those that pruning
 -- keeps, each in the stated order and once; what these read is at most so many times all events. The find is refused as it says, a list too
 -- short with the number needed; or it gives the numbers, and the slice has the list laid out at its front, and after it what was there.
 pub record RightFind (q : Question) (list : List ℕ) (shown : Shown) : Type 0 where

@@ -1,3 +1,4 @@
+pub mod Counted
 pub mod Masks
 pub mod Pruning
 pub mod Walking

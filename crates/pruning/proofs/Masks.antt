@@ -1,39 +1,32 @@
 -- What is counted from the words of traces is what is counted over the traces.
 -- Assumes nothing.
-use Prim.Native.Nat.{ℕ, zero, suc, ◌+◌, ◌*◌, ◌%◌, ◌^◌, ◌≤◌, ◌<◌, min}
+use Prim.Native.Nat.{ℕ, zero, suc, ◌*◌, ◌%◌, ◌^◌, ◌≤◌, ◌<◌}
 use native.Mathlib.Omega.{arith}
 use mathlib.Core.Path.{◌≡◌, refl, sym, ap, ap₂, ◌∙◌}
-use mathlib.Core.Bool.{Bool, true, false, cond, not, ◌&&◌, ◌||◌, and-true, and-false, or-false}
+use mathlib.Core.Bool.{Bool, true, false, not, ◌&&◌, ◌||◌, and-true, and-false}
 use mathlib.Core.List.{List, [], ◌∷◌, map}
 use borrow.Author.Tests.{eqb-true, eqb-false, eq-eqb, ne_eqb, lt-ltb, leb-false, lt-leb, le-leb}
 use lib.Dec.{eqb, leb}
-use lib.ListN.{length, get_or, set, get_or-append}
-use native.Mathlib.Numerals.{add-one}
-use Rattle.std.proofs.lemmas.List.{length-map}
-use Rattle.base.proofs.Stores.{front, front_on, front_all}
-use Rattle.std.specs.Prelude.{drop, bit_and, bit_or, if◌then◌else◌}
+use lib.ListN.{length, set}
+use Rattle.std.specs.Prelude.{bit_and, bit_or, if◌then◌else◌}
 use Rattle.std.specs.Int.{bit_at}
 use Rattle.std.specs.Int.Bits.{or_zero_l, or_self}
-use Rattle.std.specs.List.{filter, list_all, list_any}
+use Rattle.std.specs.List.{filter, list_all}
 use Rattle.std.proofs.lemmas.Nat.{pow_pos, and_mask, and_le_r, or_comm, le_or_l}
 use Rattle.std.proofs.lemmas.Nat.Bits.{bit_at-lt, bit_at_and, bit_at_or, same_from_bits, and_pow}
-use Rattle.base.specs.Lists.{non_empty, count, range}
+use Rattle.base.specs.Lists.{non_empty}
 use Rattle.base.proofs.Bools.{either, and_left, and_right, fails_too}
-use Rattle.base.proofs.Lists.{count_filter, count_map, count_same, range_at, range_length, all_range}
+use Rattle.base.proofs.Lists.{count_filter, count_map, count_same}
 use Rattle.declare.specs.declared.constraints.Constraint.{Constraint}
 use Rattle.declare.specs.Traces.{most_activities, all_below}
 use Rattle.declare.specs.Meaning.{occurs}
-use Rattle.declare.proofs.Occurrence.{occurs_any}
 use Rattle.eventlog.specs.Words.{word_of, bit_of, has}
-use Rattle.eventlog.proofs.WordBits.{word_small, word_alone, has_occurs, has_declared, some_bit}
+use Rattle.eventlog.proofs.WordBits.{word_small, word_alone, has_declared, some_bit}
 use Rattle.pruning.specs.declared.Class.{Class}
-use Rattle.pruning.specs.declared.Measure.{Measure}
 use Rattle.pruning.specs.declared.Class.TheVariants.{WithA, All, Either, Both}
-use Rattle.pruning.specs.declared.Settings.{Settings}
-use Rattle.pruning.specs.declared.Frequent.{Frequent}
-use Rattle.pruning.specs.Question.{Question, question_over, measure_of, meets, class_of, counts_for, reads, support, survives_in, survives}
+use Rattle.pruning.specs.Question.{class_of, counts_for, reads, support}
 use Rattle.declare.specs.Constraints.{Over}
-use Rattle.pruning.specs.Masks.{some_of, all_of, traces_by, counts_by, support_by, companions_by, pairs_by, frequent_by, survives_by, bits_of, by_mask, test_for, passes}
+use Rattle.pruning.specs.Masks.{some_of, all_of, traces_by, counts_by, support_by, bits_of, by_mask, test_for, passes}
 
 -- ## Any masks
 
@@ -71,7 +64,7 @@ module _ (word x y : ℕ) where
       (λ i.
       omega (arith, ap (λ n. bit_at n i) all, bit_at_and word (bit_or x y) i, bit_at_or x y i, bit_at_and word x i))
 
-all_both : (word x y : ℕ) → all_of (bit_or x y) word ≡ all_of x word && all_of y word
+pub all_both : (word x y : ℕ) → all_of (bit_or x y) word ≡ all_of x word && all_of y word
 all_both word x y = go (all_of (bit_or x y) word) refl
   where
     right : all_of (bit_or x y) word ≡ true → bit_and word y ≡ y
@@ -122,7 +115,7 @@ module _ (word a : ℕ) (low : a < most_activities) where
   some : bit_of a ≡ 0 → ⊥
   some none = let positive = pow_pos a in omega (arith, none, single a low)
 
-  some_has : some_of (bit_of a) word ≡ has a word
+  pub some_has : some_of (bit_of a) word ≡ has a word
   some_has = go (has a word) refl
     where
       go : (t : Bool) → has a word ≡ t → some_of (bit_of a) word ≡ t
@@ -130,7 +123,7 @@ module _ (word a : ℕ) (low : a < most_activities) where
       go false unset = ap (λ n. not (eqb n 0)) (where_unset unset)
 
   -- one bit alone is all of them
-  all_has : all_of (bit_of a) word ≡ has a word
+  pub all_has : all_of (bit_of a) word ≡ has a word
   all_has = go (has a word) refl
     where
       go : (t : Bool) → has a word ≡ t → all_of (bit_of a) word ≡ t
@@ -194,7 +187,7 @@ module _ (kept : List (List ℕ)) (declared : list_all (all_below most_activitie
       count_map (some_of 4294967295) word_of kept
       ∙ count_same (all_below most_activities) (λ trace. some_of 4294967295 (word_of trace)) non_empty kept declared some_at_all
 
-  support_counted :
+  pub support_counted :
       (class : Class) (c : Constraint) → c.a < most_activities → c.b < most_activities →
       support_by class (map word_of kept) c.a c.b ≡ support class (filter non_empty kept) c
   unfolding support
@@ -204,91 +197,8 @@ module _ (kept : List (List ℕ)) (declared : list_all (all_below most_activitie
       (λ trace declared. counts_trace trace declared c.a c.b low low' class)
       ∙ sym (count_filter non_empty (counts_for class c.a c.b) kept)
 
--- ## Frequent pairs
-
-module _ (p : ℕ → Bool) (b : ℕ) where
-  abbrev any_from : List ℕ → Bool
-  any_from xs = list_any (λ x. eqb x b) (filter p xs)
-
-  any_more : (x : ℕ) (xs : List ℕ) → any_from (x ∷ xs) ≡ (p x && eqb x b) || any_from xs
-  any_more x xs = go (p x)
-    where
-      go : (t : Bool) → list_any (λ x. eqb x b) (cond t (x ∷ filter p xs) (filter p xs)) ≡ (t && eqb x b) || any_from xs
-      go true = refl
-      go false = refl
-
-  below_range : (first more : ℕ) → b < first → any_from (range first more) ≡ false
-  below_range first zero low = refl
-  below_range first (suc more) low =
-      any_more first (range (suc first) more)
-      ∙ rw (ne_eqb first b (λ same. omega arith), and-false (p first)) (below_range (suc first) more (omega arith))
-
-  in_range : (first more : ℕ) → first ≤ b → b < first + more → any_from (range first more) ≡ p b
-  in_range first zero low high = absurd (omega arith)
-  in_range first (suc more) low high =
-      any_more first (range (suc first) more)
-      ∙ either (eqb first b)
-      (λ same.
-      let here = eqb-true first b same in
-      rw (same, below_range (suc first) more (omega arith)) (or-false (p first && true) ∙ and-true (p first) ∙ ap p here))
-      (λ other. rw (other, and-false (p first)) (in_range (suc first) more (omega (arith, eqb-false first b other)) (omega arith)))
-
--- what is filtered of a range has just those of it that pass
-occurs_filtered : (p : ℕ → Bool) (more b : ℕ) → b < more → occurs b (filter p (range 0 more)) ≡ p b
-occurs_filtered p more b high = occurs_any b (filter p (range 0 more)) ∙ in_range p b 0 more (omega arith) (omega arith)
-
--- the companions of each activity, one behind the other
-module _ (class : Class) (m : Measure) (words there : List ℕ) where
-  abbrev so_many : ℕ
-  so_many = min m.activities most_activities
-
-  abbrev made : List ℕ
-  made = map (companions_by class m words) (range 0 so_many)
-
-  made_length : length made ≡ so_many
-  made_length = length-map (range 0 so_many) (companions_by class m words) ∙ range_length 0 so_many
-
-  made_at : (a : ℕ) → a < so_many → get_or made a 0 ≡ companions_by class m words a
-  made_at a within = range_at (companions_by class m words) so_many a 0 within
-
-  pairs_at : (a : ℕ) → a < so_many → get_or (pairs_by class m words there) a 0 ≡ companions_by class m words a
-  unfolding pairs_by
-  pairs_at a within = get_or-append made (drop so_many there) 0 a (omega (arith, made_length)) ∙ made_at a within
-
-  -- one more in its place
-  pub pairs_more :
-      (a : ℕ) → a < so_many → 32 ≤ length there → set (front made a there) a (companions_by class m words a) ≡ front made (a + 1) there
-  pairs_more a within long =
-      ap (set (front made a there) a) (sym (made_at a within))
-      ∙ front_on made a there (omega (arith, made_length)) (omega arith)
-      ∙ ap (λ k. front made k there) (sym (add-one a))
-
-  -- and all of them
-  pub pairs_all : front made so_many there ≡ pairs_by class m words there
-  unfolding pairs_by
-  pairs_all = front_all made so_many there made_length
-
-module _ (m : Measure) (few : m.activities ≤ most_activities) (words there : List ℕ) where
-  paired_frequent :
-      (class : Class) (a b : ℕ) → a < m.activities → b < m.activities →
-      has (b % 32) (get_or (pairs_by class m words there) (a % 32) 0) ≡ meets m (support_by class words a b)
-  paired_frequent class a b declared declared' =
-      let frequent : ℕ → Bool = λ b. meets m (support_by class words a b) in
-      let all : min m.activities most_activities ≡ m.activities = omega arith in
-      let same : a % 32 ≡ a = omega arith in
-      let same' : b % 32 ≡ b = omega arith in
-      ap₂ (λ i j. has j (get_or (pairs_by class m words there) i 0)) same same'
-      ∙ ap (has b) (pairs_at class m words there a (omega arith) ∙ ap (λ n. word_of (filter frequent (range 0 n))) all)
-      ∙ has_occurs b (filter frequent (range 0 m.activities)) (omega arith)
-      ∙ occurs_filtered frequent m.activities b declared'
-
-every_bit : (k : ℕ) → k < 32 → has k 4294967295 ≡ true
-every_bit k low = all_range (λ k. has k 4294967295) 0 32 k refl (omega arith) low
-
--- ## What pruning keeps
-
 -- the class of the traces with a is that of templates for one activity
-one_activity : (template : ℕ) → class_of template ≡ WithA → leb template 8 ≡ true
+pub one_activity : (template : ℕ) → class_of template ≡ WithA → leb template 8 ≡ true
 one_activity template e = either (leb template 8) (λ one. one) (λ more. absurd (other more))
   where
     no : (x : Bool) → (if x then Either else Both) ≡ WithA → ⊥
@@ -308,39 +218,7 @@ one_activity template e = either (leb template 8) (λ one. one) (λ more. absurd
           and-false (leb 4 template),
         ) at e)
 
-module _ (kept : List (List ℕ)) (declared : list_all (all_below most_activities) kept ≡ true) (n : ℕ) (few : n ≤ most_activities)
-    (settings : Settings) (c : Constraint) (over : Over n c) (f : Frequent) where
-  abbrev q : Question
-  q = question_over n kept settings
-
-  abbrev words : List ℕ
-  words = map word_of kept
-
-  counted : (class : Class) → support_by class words c.a c.b ≡ support class q.traces c
-  counted class = support_counted kept declared class c (omega (arith, over.a_declared)) (omega (arith, over.b_declared))
-
-  frequent :
-      (class : Class) (there : List ℕ) →
-      has (c.b % 32) (get_or (pairs_by class (measure_of q) words there) (c.a % 32) 0)
-      ≡ meets (measure_of q) (support_by class words c.a c.b)
-  frequent class there = paired_frequent (measure_of q) few words there class c.a c.b over.a_declared over.b_declared
-
-  -- the traces with a or a are those with a
-  by_class : (class : Class) → class ≡ class_of c.template → survives_by (frequent_by (measure_of q) words f) class c ≡ survives_in class q c
-  by_class WithA of_template =
-      let one : c.b ≡ c.a = sym (eqb-true c.a c.b (rw (one_activity c.template (sym of_template)) at over.paired)) in
-      frequent Either f.either
-      ∙ ap (λ b. meets (measure_of q) (count (some_of (bit_or (bit_of c.a) (bit_of b))) words)) one
-      ∙ ap (λ bits. meets (measure_of q) (count (some_of bits) words)) (or_self (bit_of c.a))
-      ∙ ap (meets (measure_of q)) (counted WithA)
-  by_class All of_template = every_bit (c.b % 32) (omega arith)
-  by_class Either of_template = frequent Either f.either ∙ ap (meets (measure_of q)) (counted Either)
-  by_class Both of_template = frequent Both f.both ∙ ap (meets (measure_of q)) (counted Both)
-
-  pub survives_counted : {class : Class} → class ≡ class_of c.template → survives_by (frequent_by (measure_of q) words f) class c ≡ survives q c
-  survives_counted {class} of_template = by_class class of_template ∙ ap (λ class. survives_in class q c) of_template
-
--- and the test of words which traces it reads
+-- the test of words tells which traces a constraint reads
 pub passes_reads :
     (n : ℕ) → n ≤ most_activities → (c : Constraint) → Over n c → (trace : List ℕ) → all_below most_activities trace ≡ true →
     passes (test_for (class_of c.template) c.a c.b) (word_of trace) ≡ reads c trace

@@ -1,8 +1,8 @@
--- A question to the finder: what meets its threshold, the constraints' counts, and which of them pruning keeps.
+-- A question to the finder: what meets its settings, the constraints' counts, and which of them pruning keeps.
 -- Assumes nothing.
 use Rattle.std.specs.Prelude.{ℕ, ◌*◌, Bool, true, false, ◌&&◌, ◌||◌, List, eqb, leb, length, if◌then◌else◌}
 use Rattle.base.specs.Logic.{in_range}
-use Rattle.declare.specs.Meaning.{occurs, fulfilled}
+use Rattle.declare.specs.Meaning.{occurs, activated, fulfilled}
 use Rattle.eventlog.specs.Store.{Memory, kept}
 use Rattle.pruning.specs.declared.Settings.{Settings}
 use Rattle.pruning.specs.declared.Measure.{Measure}
@@ -34,6 +34,10 @@ trace_count q = length q.traces
 abbrev pub threshold_in_range : Settings → Bool
 threshold_in_range settings = in_range 1 settings.threshold 1000
 
+-- k, the confidence in thousandths, is 0 to 1000
+abbrev pub confidence_in_range : Settings → Bool
+confidence_in_range settings = leb settings.confidence 1000
+
 -- what its constraints and their counts are measured by
 abbrev pub measure_of : Question → Measure
 measure_of q = record { activities = q.activities; settings = q.settings; traces = trace_count q }
@@ -42,9 +46,17 @@ measure_of q = record { activities = q.activities; settings = q.settings; traces
 abbrev pub meets : Measure → ℕ → Bool
 meets m number = leb (m.settings.threshold * m.traces) (1000 * number)
 
+-- 1000 × fulfilled ≥ k × activated, nothing rounded
+abbrev pub confident : Settings → ℕ → ℕ → Bool
+confident settings fulfilled activated = leb (settings.confidence * activated) (1000 * fulfilled)
+
 -- the traces fulfilled for a constraint
 unfoldable pub fulfilments : List (List ℕ) → Constraint → ℕ
 fulfilments traces c = count (fulfilled c.template c.a c.b) traces
+
+-- those in which it is activated: of a question's traces, all of which are of length 1 or more
+unfoldable pub activations : List (List ℕ) → Constraint → ℕ
+activations traces c = count (activated c.template c.a c.b) traces
 
 -- the class of pruning, by the template's number; a number outside 1 to 24 is in the last one too
 abbrev pub class_of : ℕ → Class

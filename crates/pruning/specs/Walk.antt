@@ -8,7 +8,7 @@ use Rattle.declare.specs.Traces.{most_activities}
 use Rattle.declare.specs.declared.constraints.Constraint.{Constraint}
 use Rattle.declare.specs.Constraints.{constraint, pairs}
 use Rattle.eventlog.specs.Words.{has}
-use Rattle.pruning.specs.declared.Frequent.{Frequent}
+use Rattle.pruning.specs.declared.pairs.PairSupport.{PairSupport}
 use Rattle.pruning.specs.declared.walk.Walk.{Walk}
 use Rattle.pruning.specs.Question.{class_of}
 use Rattle.pruning.specs.Masks.{survives_by}
@@ -29,13 +29,13 @@ from_a n template a = flat_map (range a (n - a)) (on_a n template)
 abbrev pub from_template : ℕ → ℕ → List Constraint
 from_template n template = flat_map (range template (25 - template)) λ template. from_a n template 0
 
--- by the frequent pairs pruning keeps a constraint
-abbrev pub keeps : Frequent → Constraint → Bool
-keeps f c = survives_by f (class_of c.template) c
+-- by the pairs' support pruning keeps a constraint
+abbrev pub keeps : PairSupport → Constraint → Bool
+keeps p c = survives_by p (class_of c.template) c
 
 -- what is kept behind a template and a
 abbrev pub behind : Walk → List Constraint
-behind w = filter (keeps w.frequent.now) (from_a w.activities w.template (w.a + 1) ++ from_template w.activities (w.template + 1))
+behind w = filter (keeps w.pairs.now) (from_a w.activities w.template (w.a + 1) ++ from_template w.activities (w.template + 1))
 
 -- what the walk has left
 abbrev pub left : Walk → List Constraint
@@ -43,7 +43,7 @@ left w = map (constraint w.template w.a) (activities_in w.rest) ++ behind w
 
 -- the walk stands at a template and an a, and has all left that is kept there and behind it
 pub record Stands (w w' : Walk) : Type 0 where
-  pub all : left w' ≡ filter (keeps w.frequent.now) (from_a w.activities w.template w.a ++ from_template w.activities (w.template + 1))
+  pub all : left w' ≡ filter (keeps w.pairs.now) (from_a w.activities w.template w.a ++ from_template w.activities (w.template + 1))
   pub template : w'.template ≡ w.template
   pub a : w'.a ≡ w.a
 

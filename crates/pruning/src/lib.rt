@@ -1,33 +1,51 @@
-// What a find is measured by, and which constraints pruning keeps: by the words of traces alone. No event and no replayer can be reached from
-// here.
+// What a find is measured by, which constraints pruning keeps, and how many traces activate one: by the words of traces alone. No event and no
+// replayer can be reached from here.
 #![tactic(auto)]
 
+mod pairs;
 mod walk;
 
 ghost use Rattle.std.specs.Prelude.{◌≡◌, ◌%◌};
 ghost use Rattle.base.specs.Lists.{count};
 ghost use Rattle.eventlog.specs.Words.{bit_of};
-ghost use Rattle.pruning.specs.Question.{threshold_in_range, meets, class_of};
-ghost use Rattle.pruning.specs.Masks.{just, some_of, traces_by, support_by, companions_by, test_for, passes, no_pair, frequent_by, beside_in};
+ghost use Rattle.pruning.specs.Question.{threshold_in_range, confidence_in_range, confident, meets, class_of};
+ghost use Rattle.pruning.specs.Masks.{just, some_of, traces_by, support_by, test_for, passes};
 
-use declare::MOST_ACTIVITIES;
 use eventlog::KeptWords;
+pub use pairs::PairSupport;
 pub use walk::Walk;
 
 pub const MOST_THRESHOLD: u32 = 1000;
 
-// What a find is asked by: the threshold (in the field: support), in thousandths.
+pub const MOST_CONFIDENCE: u32 = 1000;
+
+// What a find is asked by, both in thousandths: the threshold (in the field: support) and the confidence (document 02: k).
 #[derive(Clone, Copy, Debug, PartialEq, Eq)]
 pub struct Settings {
     pub threshold: u32,
+    pub confidence: u32,
 }
 
 impl Settings {
     // Whether the threshold is one: 1 to 1000.
-    pub fn in_range(self) -> bool
+    pub fn threshold_in_range(self) -> bool
         ensures { result ≡ threshold_in_range self }
     {
         1 <= self.threshold && self.threshold <= MOST_THRESHOLD
+    }
+
+    // Whether the confidence is one: 0 to 1000.
+    pub fn confidence_in_range(self) -> bool
+        ensures { result ≡ confidence_in_range self }
+    {
+        self.confidence <= MOST_CONFIDENCE
+    }
+
+    // 1000 times the fulfilled traces are at least the confidence times the activated ones; nothing is rounded.
+    pub fn confident(self, fulfilled: u32, activated: u32) -> bool
+        ensures { result ≡ confident self fulfilled activated }
+    {
+        u64::from(self.confidence) * u64::from(activated) <= 1000 * u64::from(fulfilled)
     }
 }
 
@@ -146,59 +164,5 @@ fn support(words: KeptWords, class: Class, a: u8, b: u8) -> u32
         Class::All => trace_count(words),
         Class::Either => with_some(words, a | b),
         Class::Both => masked(words, a | b, a | b),
-    }
-}
-
-// The declared activities with which an activity makes a frequent pair, as a word.
-fn companions(measure: Measure, words: KeptWords, class: Class, a: u8) -> u32
-    ensures { result ≡ companions_by class measure words.entry.words.now a }
-{
-    (0..measure.activities.min(MOST_ACTIVITIES) as u8)
-        .filter(|&b| measure.meets(support(words, class, a, b)))
-        .fold(0, |word, b| eventlog::with_bit(word, b))
-}
-
-// Which pairs of activities are frequent: their support, by the traces with one of the two and by those with both, meets the threshold. Each
-// activity has its companions.
-// Support is counted for each two activities in either order, and not for each constraint: many templates ask for the same. It is asked for two
-// classes alone: the traces with a are those with one of a and a, and the class of all is kept always.
-#[derive(Drop)]
-pub struct Frequent {
-    either: [u32; 32],
-    both: [u32; 32],
-}
-
-impl Frequent {
-    // No pair so far.
-    pub fn none() -> Frequent
-        ensures { result ≡ no_pair }
-    {
-        Frequent {
-            either: [0; 32],
-            both: [0; 32],
-        }
-    }
-
-    // Counts them. In place: what is handed back would be copied by memcpy, which the archive for C would then need.
-    pub fn count(&mut self, measure: Measure, words: KeptWords)
-        ensures { self.new ≡ frequent_by measure words.entry.words.now self.old }
-    {
-        for a in 0..measure.activities.min(MOST_ACTIVITIES) as u8 {
-            self.either[usize::from(a)] = companions(measure, words, Class::Either, a);
-            self.both[usize::from(a)] = companions(measure, words, Class::Both, a);
-        }
-    }
-
-    // The activities with which pruning keeps a constraint on a whose template is of this class, as a word. In the class of the traces with a, b is
-    // a, so these are the traces with a or b. Activities are taken by their remainder by 32.
-    pub fn beside(&self, class: Class, a: u8) -> u32
-        ensures { result ≡ beside_in self.now class a }
-    {
-        let place = usize::from(a % 32);
-        match class {
-            Class::All => u32::MAX,
-            Class::Both => self.both[place],
-            _ => self.either[place],
-        }
     }
 }

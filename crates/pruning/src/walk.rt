@@ -3,7 +3,7 @@ ghost use Rattle.std.specs.Prelude.{◌≤◌, ◌<◌, ◌-◌};
 ghost use Rattle.declare.specs.Traces.{most_activities};
 ghost use Rattle.pruning.specs.Masks.{Partners};
 
-use crate::{Class, Frequent, bit};
+use crate::{Class, PairSupport, bit};
 use declare::{Constraint, MOST_ACTIVITIES};
 
 // Where it stands: at a template and an a, with the bs that are still to come beside it, as a word.
@@ -11,7 +11,7 @@ use declare::{Constraint, MOST_ACTIVITIES};
 #[derive(Drop)]
 pub struct Walk<'a> {
     activities: u8,
-    frequent: &'a Frequent,
+    pairs: &'a PairSupport,
     template: u8,
     a: u8,
     rest: u32,
@@ -41,13 +41,13 @@ impl<'a> Walk<'a> {
     ghost use Rattle.declare.specs.Constraints.{constraints};
     ghost use Rattle.pruning.specs.Walk.{keeps, left, Stands, MovesOn};
 
-    // Over those of so many activities, 32 at most, that frequent pairs keep.
-    pub fn over(activities: u8, frequent: &'a Frequent) -> Walk<'a>
-        ensures { left result ≡ filter (keeps frequent.now) (constraints (min activities most_activities)) }
+    // Over those of so many activities, 32 at most, that pairs keep by their support.
+    pub fn over(activities: u8, pairs: &'a PairSupport) -> Walk<'a>
+        ensures { left result ≡ filter (keeps pairs.now) (constraints (min activities most_activities)) }
     {
         let mut walk = Walk {
             activities: activities.min(MOST_ACTIVITIES as u8),
-            frequent,
+            pairs,
             template: 1,
             a: 0,
             rest: 0,
@@ -61,7 +61,7 @@ impl<'a> Walk<'a> {
         ensures { Stands self.old self.new }
     {
         let class = Class::of(self.template);
-        self.rest = self.frequent.beside(class, self.a)
+        self.rest = self.pairs.beside(class, self.a)
             & partners(self.activities, self.template, self.a);
     }
 

@@ -1,4 +1,4 @@
--- The first four checks of an input: each refuses, or leaves the rest to the stages after it.
+-- The checks of an input before its log: each refuses, or leaves the rest to the stages after it.
 -- Assumes nothing.
 use Prim.Native.Nat.{ℕ, ◌≤◌, ◌<◌}
 use mathlib.Core.Path.{◌≡◌, refl, sym, ap, ◌∙◌}
@@ -7,8 +7,8 @@ use mathlib.Core.List.{List, [], ◌∷◌, ◌++◌}
 use borrow.Author.Tests.{not-false, lt-ltb, le-ltb}
 use lib.ListN.{length}
 use Rattle.std.specs.Prelude.{Result, Err, None}
-use Rattle.base.specs.Checks.{Check, gives, refused}
-use Rattle.base.proofs.Checks.{refused_same, decision, decision_append}
+use Rattle.base.specs.Checks.{Check, gives, refused, reply}
+use Rattle.base.proofs.Checks.{none_fail, refused_same, decision, followed_by, decision_append}
 use Rattle.base.proofs.Outcomes.{accepted_passes, accepted_leaves}
 use Rattle.eventlog.specs.declared.Store.{Store}
 use Rattle.answers.specs.declared.Reason.{Reason}
@@ -19,7 +19,6 @@ use Rattle.eventlog.specs.Calls.{open_checks, Opens}
 use Rattle.columns.specs.Log.{log_checks}
 use Rattle.discovery.specs.declared.Found.{Found}
 use Rattle.pruning.specs.declared.Settings.{Settings}
-use Rattle.pruning.specs.Question.{threshold_in_range}
 use Rattle.discovery.specs.Calls.{settings_checks}
 use Rattle.report.specs.declared.Arrays.{Arrays}
 use Rattle.report.specs.Report.{most_input, settings_set, log_of, room_lent, checks_to_read}
@@ -72,17 +71,24 @@ module _ (input : List ℕ) (arrays : Arrays) where
           refusal_decides (rw (le-ltb _ _ fits, l.laid_out, ← l.activities) (decision_append (open_checks n) more ∙ rw refuses))
 
       module _ (declared : declarable n ≡ true) where
-        pub out_of_range : threshold_in_range settings ≡ false → Decided input arrays (Err (record { reason = Reason.ThresholdOutOfRange; detail = 0 })) arrays
+        pub refused_settings :
+            (refusal : Refusal) → refusal_said refusal ≡ reply (settings_checks settings) [] → Decided input arrays (Err refusal) arrays
         unfolding checks_to_read
-        out_of_range h =
-            refusal_decides (rw (le-ltb _ _ fits, l.laid_out, ← l.activities, ← l.settings_are, declared, h))
+        refused_settings refusal e =
+            let read = log_checks (room_lent n) (log_of input) in
+            refusal_decides
+            (rw (le-ltb _ _ fits, l.laid_out, ← l.activities, ← l.settings_are, declared)
+            (decision_append (settings_checks settings) read ∙ ap (λ said. followed_by said (decision read)) (sym e)))
 
-        -- the four pass, and the answer is that to the log
+        -- they pass, and the answer is that to the log
         pub goes_on :
-            (log : List ℕ) {answer : Result Found Refusal} {arrays' : Arrays} → threshold_in_range settings ≡ true → log ≡ log_of input →
+            (log : List ℕ) {answer : Result Found Refusal} {arrays' : Arrays} → gives [] ≡ reply (settings_checks settings) [] → log ≡ log_of input →
             Decides (log_checks (room_lent n) log) n settings log arrays answer arrays' → Decided input arrays answer arrays'
         unfolding checks_to_read
-        goes_on log h e d =
+        goes_on log passes e d =
             let d' = rw (e, l.activities, l.settings_are) at d in
+            let (threshold, (confidence, _)) = none_fail (settings_checks settings) [] [] (sym passes) in
             check_passes (le-ltb _ _ fits)
-            (check_passes (rw l.laid_out) (check_passes (rw (← l.activities, declared)) (check_passes (rw (← l.settings_are, h)) d')))
+            (check_passes (rw l.laid_out)
+            (check_passes (rw (← l.activities, declared))
+            (check_passes (rw (← l.settings_are) threshold) (check_passes (rw (← l.settings_are) confidence) d'))))

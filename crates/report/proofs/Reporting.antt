@@ -17,7 +17,7 @@ use Rattle.declare.specs.declared.constraints.Constraint.{Constraint}
 use Rattle.answers.specs.declared.Refusal.{Refusal}
 use Rattle.discovery.specs.declared.Found.{Found}
 use Rattle.pruning.specs.declared.Settings.{Settings}
-use Rattle.pruning.specs.Question.{Question, trace_count, fulfilments}
+use Rattle.pruning.specs.Question.{Question, trace_count, fulfilments, activations}
 use Rattle.discovery.specs.Listing.{listed, replayed, numbers, layout, events_read}
 use Rattle.discovery.specs.Calls.{find_values, with_list}
 use Rattle.discovery.proofs.Listing.{layout_length}
@@ -32,7 +32,7 @@ use Rattle.report.proofs.Puts.{put_same}
 
 module _ (q : Question) where
   abbrev lines_for : List Constraint → List ℕ
-  lines_for cs = flat_map cs λ c. constraint_line c.template c.a c.b (fulfilments q.traces c)
+  lines_for cs = flat_map cs λ c. constraint_line c.template c.a c.b (fulfilments q.traces c) (activations q.traces c)
 
   lines_laid_out :
       (cs : List Constraint) (rest : List ℕ) → lines_of (first_chunks numbers (length cs) (layout q cs ++ rest)) ≡ lines_for cs

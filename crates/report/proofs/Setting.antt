@@ -1,6 +1,6 @@
--- The settings line: what its two fields set.
+-- The settings line: what its three fields set.
 -- Assumes nothing.
-use Prim.Native.Nat.{ℕ, ◌≤◌, ◌<◌}
+use Prim.Native.Nat.{ℕ, ◌+◌, ◌≤◌, ◌<◌}
 use native.Mathlib.Omega.{arith}
 use mathlib.Core.Path.{◌≡◌, refl, sym, ap}
 use mathlib.Core.Bool.{Bool, true, false, ◌&&◌, and-false}
@@ -15,56 +15,73 @@ use Rattle.base.proofs.Lists.{take_drop}
 use Rattle.fields.specs.Field.{line_feed, well_formed, value, widest, field_of}
 use Rattle.pruning.specs.declared.Settings.{Settings}
 use Rattle.report.specs.declared.SettingsLine.{SettingsLine}
-use Rattle.report.specs.Report.{settings_laid_out, activities_set, settings_set}
+use Rattle.report.specs.Report.{settings_line_size, settings_laid_out, activities_set, settings_set}
 use Rattle.report.specs.Stages.{settings_of}
 
-pub cut_short : (input : List ℕ) → length input < 8 → settings_of input ≡ None
+pub cut_short : (input : List ℕ) → length input < settings_line_size → settings_of input ≡ None
 unfolding settings_laid_out
-cut_short input h = rw (lt-leb 8 (length input) h)
+cut_short input h = rw (lt-leb settings_line_size (length input) h)
 
-pub no_line_feed : (input : List ℕ) → eqb (get_or input 7 0) line_feed ≡ false → settings_of input ≡ None
+pub no_line_feed : (input : List ℕ) → eqb (get_or input 11 0) line_feed ≡ false → settings_of input ≡ None
 unfolding settings_laid_out
 no_line_feed input h = rw (h, and-false)
 
--- ## Two fields and a line feed
+-- ## Three fields and a line feed
 
-abbrev pub both_set : Option ℕ → Option ℕ → Option SettingsLine
-both_set (Some n) (Some threshold) = Some (record { activities = n; settings = record { threshold = threshold } })
-both_set (Some n) None = None
-both_set None threshold = None
+abbrev line : ℕ → ℕ → ℕ → SettingsLine
+line n threshold confidence = record { activities = n; settings = record { threshold = threshold; confidence = confidence } }
 
-both_by :
-    (p q : Bool) (n threshold : ℕ) →
-    both_set (if p then Some n else None) (if q then Some threshold else None)
-    ≡ (if p && q && true then Some (record { activities = n; settings = record { threshold = threshold } }) else None)
-both_by true true n threshold = refl
-both_by true false n threshold = refl
-both_by false q n threshold = refl
+abbrev pub all_set : Option ℕ → Option ℕ → Option ℕ → Option SettingsLine
+all_set (Some n) (Some threshold) (Some confidence) = Some (line n threshold confidence)
+all_set (Some n) (Some threshold) None = None
+all_set (Some n) None confidence = None
+all_set None threshold confidence = None
+
+all_by :
+    (p q r : Bool) (n threshold confidence : ℕ) →
+    all_set (if p then Some n else None) (if q then Some threshold else None) (if r then Some confidence else None)
+    ≡ (if p && q && r && true then Some (line n threshold confidence) else None)
+all_by true true true n threshold confidence = refl
+all_by true true false n threshold confidence = refl
+all_by true false r n threshold confidence = refl
+all_by false q r n threshold confidence = refl
+
+-- a part of the line is no wider than a field can be
+narrow : (from to : ℕ) (input : List ℕ) → from ≤ to → to ≤ length input → to ≤ from + widest → leb (length (slice from to input)) widest ≡ true
+narrow from to input rises long few = le-leb (length (slice from to input)) widest (omega (arith, length-slice from to input long))
 
 pub fields_set :
-    (input : List ℕ) → 8 ≤ length input → eqb (get_or input 7 0) line_feed ≡ true →
-    both_set (field_of (take 3 input)) (field_of (take 4 (drop 3 input))) ≡ settings_of input
+    (input : List ℕ) → settings_line_size ≤ length input → eqb (get_or input 11 0) line_feed ≡ true →
+    all_set (field_of (take 3 input)) (field_of (take 4 (drop 3 input))) (field_of (take 4 (drop 7 input))) ≡ settings_of input
 unfolding settings_laid_out activities_set settings_set
 fields_set input long feed =
-    let three : leb (length (slice 0 3 input)) widest ≡ true = le-leb (length (slice 0 3 input)) widest (omega (arith, length-slice 0 3 input (omega arith))) in
-    let four : leb (length (slice 3 7 input)) widest ≡ true = le-leb (length (slice 3 7 input)) widest (omega (arith, length-slice 3 7 input (omega arith))) in
-    rw (take_drop 3 4 input, le-leb 8 (length input) long, feed, three, four)
-    (both_by (well_formed (slice 0 3 input)) (well_formed (slice 3 7 input)) (value (slice 0 3 input)) (value (slice 3 7 input)))
+    rw (
+      take_drop 3 4 input,
+      take_drop 7 4 input,
+      le-leb settings_line_size (length input) long,
+      feed,
+      narrow 0 3 input (omega arith) (omega arith) (omega arith),
+      narrow 3 7 input (omega arith) (omega arith) (omega arith),
+      narrow 7 11 input (omega arith) (omega arith) (omega arith),
+    )
+    (all_by (well_formed (slice 0 3 input)) (well_formed (slice 3 7 input)) (well_formed (slice 7 11 input)) (value (slice 0 3 input))
+    (value (slice 3 7 input)) (value (slice 7 11 input)))
 
 -- ## What the settings say of the line
 
 pub record LaidOut (input : List ℕ) (n : ℕ) (settings : Settings) : Type 0 where
   pub laid_out : settings_laid_out input ≡ true
-  pub long : 8 ≤ length input
+  pub long : settings_line_size ≤ length input
   pub activities : n ≡ activities_set input
   pub settings_are : settings ≡ settings_set input
 
-long_enough : (input : List ℕ) → settings_laid_out input ≡ true → 8 ≤ length input
+long_enough : (input : List ℕ) → settings_laid_out input ≡ true → settings_line_size ≤ length input
 unfolding settings_laid_out
 long_enough input h =
-    leb-true 8 (length input)
+    leb-true settings_line_size (length input)
     (and_left _ (well_formed (slice 0 3 input))
-    (and_left _ (well_formed (slice 3 7 input)) (and_left _ (eqb (get_or input 7 0) line_feed) h)))
+    (and_left _ (well_formed (slice 3 7 input))
+    (and_left _ (well_formed (slice 7 11 input)) (and_left _ (eqb (get_or input 11 0) line_feed) h))))
 
 pub set_by : {input : List ℕ} {line : SettingsLine} → settings_of input ≡ Some line → LaidOut input line.activities line.settings
 set_by {input} {line} e =

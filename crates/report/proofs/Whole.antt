@@ -23,7 +23,7 @@ use Rattle.columns.specs.Log.{Line, Before, nothing_read, with_line, lines_withi
 use Rattle.eventlog.specs.Calls.{with_traces}
 use Rattle.declare.specs.declared.constraints.Constraint.{Constraint}
 use Rattle.pruning.specs.declared.Settings.{Settings}
-use Rattle.pruning.specs.Question.{Question, trace_count, support, fulfilments}
+use Rattle.pruning.specs.Question.{Question, trace_count, support, fulfilments, activations}
 use Rattle.discovery.specs.Listing.{listed, replayed, events_read}
 use Rattle.discovery.specs.Calls.{find_checks}
 use Rattle.discovery.proofs.Listing.{listed_exactly, replayed_at_most, read_at_most_last, listed_within_replayed}
@@ -87,7 +87,8 @@ module _ (q : Question) (few : q.activities ≤ most_activities) where
   listed_few = omega (arith, replayed_few, listed_within_replayed q)
 
   whole_find : Each WholeRefusal (find_checks q lent_list)
-  whole_find = ((omega arith, omega arith), λ a. ((omega arith, omega arith), λ b. ((omega arith, omega (arith, listed_few)), λ c. tt)))
+  whole_find =
+      ((omega arith, omega arith), λ a. ((omega arith, omega arith), λ b. ((omega arith, omega arith), λ c. ((omega arith, omega (arith, listed_few)), λ d. tt))))
 
 whole_refusal :
     (input : List ℕ) (number detail : ℕ) → reply (checks_of_report input) [] ≡ refused number detail → WholeRefusal number detail
@@ -103,10 +104,13 @@ whole_refusal input number detail =
           (omega arith, omega arith),
           λ passes. (
             (omega arith, omega arith),
-            λ met.
-                each_append WholeRefusal (log_checks (room_lent n) log) (find_checks (question_set input) lent_list)
-                (whole_log (room_lent n) log (omega (arith, ltb-false most_input (length input) short, length-drop 8 input)))
-                (λ read. whole_find (question_set input) (range_facts 1 n most_activities (not-false (declarable n) passes)).1),
+            λ met. (
+              (omega arith, omega arith),
+              λ confident.
+                  each_append WholeRefusal (log_checks (room_lent n) log) (find_checks (question_set input) lent_list)
+                  (whole_log (room_lent n) log (omega (arith, ltb-false most_input (length input) short, length-drop 12 input)))
+                  (λ read. whole_find (question_set input) (range_facts 1 n most_activities (not-false (declarable n) passes)).1),
+            ),
           ),
         ),
       ),
@@ -162,6 +166,10 @@ module _ (n : ℕ) (settings : Settings) (log : List ℕ) (declared : declarable
   unfolding fulfilments
   fulfilled_few c = omega (arith, traces_few, count_at_most (fulfilled c.template c.a c.b) q.traces)
 
+  activated_few : (c : Constraint) → activations q.traces c ≤ 4095
+  unfolding activations
+  activated_few c = omega (arith, traces_few, count_at_most (activated c.template c.a c.b) q.traces)
+
   whole_report : WholeLines q
   whole_report =
       let high = (range_facts 1 n most_activities declared).1 in
@@ -173,7 +181,7 @@ module _ (n : ℕ) (settings : Settings) (log : List ℕ) (declared : declarable
         each =
             λ c member.
             let over = (((listed_exactly q).members c).0 member).0 in
-            (omega (arith, over.to_24), omega (arith, over.a_declared), omega (arith, over.b_declared), omega (arith, fulfilled_few c));
+            (omega (arith, over.to_24), omega (arith, over.a_declared), omega (arith, over.b_declared), omega (arith, fulfilled_few c), omega (arith, activated_few c));
       }
 
 -- nothing that is printed is cut
@@ -186,7 +194,7 @@ whole input =
           λ passed.
           let n = activities_set input in
           let read = log_checks (room_lent n) (log_of input) in
-          let (_, (_, (declared, (_, later)))) = none_fail (checks_of_report input) [] [] passed in
+          let (_, (_, (declared, (_, (_, later))))) = none_fail (checks_of_report input) [] [] passed in
           whole_report n (settings_set input) (log_of input) (not-false (declarable n) declared)
           (none_fail_both read (find_checks (question_set input) lent_list) later).0;
     }
@@ -205,12 +213,12 @@ lines_fit q w = (w.constraints, w.replays, w.all, w.read)
 
 rules_fit :
     (q : Question) → WholeLines q → (c : Constraint) → Mem c (listed q) →
-    (c.template < 100) × (c.a < 1000) × (c.b < 1000) × (fulfilments q.traces c < 100000)
+    (c.template < 100) × (c.a < 1000) × (c.b < 1000) × (fulfilments q.traces c < 100000) × (activations q.traces c < 100000)
 rules_fit q w = w.each
 
 -- document 01's sample is a find whose lines it speaks of
 sample_fits : Whole sample → WholeLines (question_set sample)
 unfolding
     sample lent_list checks_of_report checks_to_read settings_laid_out activities_set settings_set lines log_checks spelled constraints
-    fulfilments support listed fulfilled activated holds meanings
+    fulfilments activations support listed fulfilled activated holds meanings
 sample_fits w = w.report refl

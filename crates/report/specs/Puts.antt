@@ -23,7 +23,7 @@ pub record Adds (t : Text) (size : ℕ) (text : List ℕ) (t' : Text) : Type 0 w
   pub same_out : t'.out.ghost_name ≡ t.out.ghost_name
 
 abbrev pub printed_line : Row → List ℕ
-printed_line row = constraint_line row.template row.a row.b row.fulfilled
+printed_line row = constraint_line row.template row.a row.b row.fulfilled row.activated
 
 -- the lines of rows of the list
 abbrev pub lines_of : List (List ℕ) → List ℕ

@@ -19,32 +19,36 @@ use Rattle.report.specs.Print.{refusal_line, found_text}
 abbrev pub most_input : ℕ
 most_input = 65536
 
--- what the program lends: 6552 events, 4095 ends, as many words and 8000 constraints
+-- what the program lends: 6552 events, 4095 ends, as many words and 6400 constraints
 abbrev pub lent_space : Space
 lent_space = record { events = 6552; ends = 4095; words = 4095 }
 
 abbrev pub lent_constraints : ℕ
-lent_constraints = 8000
+lent_constraints = 6400
 
--- a slice as long as the one lent for the list, four numbers a constraint; find's checks look at its length alone
+-- a slice as long as the one lent for the list, five numbers a constraint; find's checks look at its length alone
 unfoldable pub lent_list : List ℕ
 lent_list = replicate (numbers * lent_constraints) 0
 
 -- ## The input: a settings line, then a log
 
--- N in columns 1 to 3, threshold in 4 to 7, line feed; fields as in the log
+-- N in columns 1 to 3, threshold in 4 to 7, k in 8 to 11, line feed in 12; fields as in the log
+abbrev pub settings_line_size : ℕ
+settings_line_size = 12
+
 unfoldable pub settings_laid_out : List ℕ → Bool
 settings_laid_out input =
-    leb 8 (length input) && well_formed (slice 0 3 input) && well_formed (slice 3 7 input) && eqb (get_or input 7 0) line_feed
+    leb settings_line_size (length input)
+    && well_formed (slice 0 3 input) && well_formed (slice 3 7 input) && well_formed (slice 7 11 input) && eqb (get_or input 11 0) line_feed
 
 unfoldable pub activities_set : List ℕ → ℕ
 activities_set input = value (slice 0 3 input)
 
 unfoldable pub settings_set : List ℕ → Settings
-settings_set input = record { threshold = value (slice 3 7 input) }
+settings_set input = record { threshold = value (slice 3 7 input); confidence = value (slice 7 11 input) }
 
 abbrev pub log_of : List ℕ → List ℕ
-log_of input = drop 8 input
+log_of input = drop settings_line_size input
 
 -- what is asked over the traces that a log spells
 abbrev pub log_question : ℕ → Settings → List ℕ → Question
@@ -53,7 +57,7 @@ log_question n settings log = question_over n (spelled log) settings
 abbrev pub question_set : List ℕ → Question
 question_set input = log_question (activities_set input) (settings_set input) (log_of input)
 
--- ## The order: 12, settings malformed or cut short (4, detail 0), 2, 3, then read, then find
+-- ## The order: 12, settings malformed or cut short (4, detail 0), 2, 3, 15, then read, then find
 
 -- these checks, and then the find's
 abbrev pub then_find : List Check → Question → List Check

@@ -4,7 +4,7 @@ use Rattle.std.specs.Prelude.{ℕ, ◌^◌, ◌<◌, ◌≡◌, length}
 use mathlib.Core.List.{List, [], Mem}
 use Rattle.base.specs.Checks.{gives, refused, reply}
 use Rattle.declare.specs.declared.constraints.Constraint.{Constraint}
-use Rattle.pruning.specs.Question.{Question, trace_count, fulfilments}
+use Rattle.pruning.specs.Question.{Question, trace_count, fulfilments, activations}
 use Rattle.discovery.specs.Listing.{listed, replayed, events_read}
 use Rattle.report.specs.Print.{number_width, detail_width, first_width, read_width, template_width, activity_width, count_width}
 use Rattle.report.specs.Report.{question_set, checks_of_report}
@@ -18,7 +18,7 @@ pub record WholeLines (q : Question) : Type 0 where
   pub each :
       (c : Constraint) → Mem c (listed q) →
       (c.template < 10 ^ template_width) × (c.a < 10 ^ activity_width) × (c.b < 10 ^ activity_width)
-      × (fulfilments q.traces c < 10 ^ count_width)
+      × (fulfilments q.traces c < 10 ^ count_width) × (activations q.traces c < 10 ^ count_width)
 
 pub record Whole (input : List ℕ) : Type 0 where
   pub refusal : (number detail : ℕ) → reply (checks_of_report input) [] ≡ refused number detail →

@@ -26,7 +26,7 @@ pub const LENT_ENDS: usize = 4095;
 // As many as ends.
 pub const LENT_WORDS: usize = LENT_ENDS;
 
-pub const LENT_CONSTRAINTS: usize = 8000;
+pub const LENT_CONSTRAINTS: usize = 6400;
 
 pub const LIST: usize = discovery::NUMBERS * LENT_CONSTRAINTS;
 
@@ -42,6 +42,9 @@ pub struct Arrays {
     pub list: [u16; LIST],
 }
 
+// The settings line's bytes, its line feed among them.
+const SETTINGS_LINE: usize = 12;
+
 // What the settings line sets.
 #[derive(Clone, Copy)]
 struct SettingsLine {
@@ -52,14 +55,18 @@ struct SettingsLine {
 fn read_settings(input: &[u8]) -> Option<SettingsLine>
     ensures { result ≡ settings_of input.now }
 {
-    if input.len() < 8 || input[7] != fields::LINE_FEED {
+    if input.len() < SETTINGS_LINE || input[SETTINGS_LINE - 1] != fields::LINE_FEED {
         return None;
     }
     let activities = fields::read_field(&input[..3])?;
     let threshold = fields::read_field(&input[3..7])?;
+    let confidence = fields::read_field(&input[7..11])?;
     Some(SettingsLine {
         activities,
-        settings: Settings { threshold },
+        settings: Settings {
+            threshold,
+            confidence,
+        },
     })
 }
 
@@ -96,10 +103,8 @@ fn decide(input: &[u8], arrays: &mut Arrays) -> Result<Found, Refusal>
         settings,
     } = read_settings(input).ok_or(Reason::Malformed)?;
     let store = eventlog::open(activities)?;
-    if !settings.in_range() {
-        return Err(Reason::ThresholdOutOfRange.into());
-    }
-    read_and_find(store, settings, &input[8..], arrays)
+    discovery::check(settings)?;
+    read_and_find(store, settings, &input[SETTINGS_LINE..], arrays)
 }
 
 // The text of an answer, at the front of out; how many bytes that is.

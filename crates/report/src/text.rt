@@ -14,7 +14,7 @@ const FIRST_WIDTH: usize = 6;
 
 const READ_WIDTH: usize = 10;
 
-// The columns of a constraint's line: its template, each of its activities, its count.
+// The columns of a constraint's line: its template, each of its activities, each of its counts.
 const TEMPLATE_WIDTH: usize = 2;
 
 const ACTIVITY_WIDTH: usize = 3;
@@ -24,7 +24,7 @@ const COUNT_WIDTH: usize = 5;
 // A line's bytes, its line feed among them.
 pub(crate) const FIRST_LINE: usize = 3 * FIRST_WIDTH + READ_WIDTH + 1;
 
-pub(crate) const CONSTRAINT_LINE: usize = TEMPLATE_WIDTH + 2 * ACTIVITY_WIDTH + COUNT_WIDTH + 1;
+pub(crate) const CONSTRAINT_LINE: usize = TEMPLATE_WIDTH + 2 * ACTIVITY_WIDTH + 2 * COUNT_WIDTH + 1;
 
 // The text so far stands in the lent slice before a place.
 // Put by `fields` and not by `write!`, no plainer: these bytes are the ones of which a law says that they read back as the number.
@@ -89,6 +89,7 @@ impl<'a> Text<'a> {
         self.put_number(ACTIVITY_WIDTH, usize::from(c.a));
         self.put_second(c);
         self.put_number(COUNT_WIDTH, usize::from(c.fulfilled));
+        self.put_number(COUNT_WIDTH, usize::from(c.activated));
         self.put_line_feed();
     }
 

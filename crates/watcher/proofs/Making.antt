@@ -26,7 +26,7 @@ use Rattle.automata.specs.Ahead.{state_number, outlook}
 use Rattle.watcher.specs.Calls.{constraint_at, given, proper, all_whole, Slots, slots_after, start_checks}
 use Rattle.watcher.specs.Table.{table, place, state_after}
 use Rattle.watcher.specs.Loops.{each_of, put, first_turn, turn_by}
-use Rattle.watcher.proofs.Filling.{filled}
+use Rattle.watcher.proofs.Filling.{all_filled}
 use Rattle.watcher.proofs.Looking.{outlook_there, next_there}
 
 -- ## What start accepts
@@ -145,7 +145,7 @@ module _ (n : ℕ) (numbers : List ℕ) (started : reply (start_checks n numbers
     pub starting : each_of (first_turn (table (eqb n 1)) numbers) (length numbers / 3) 0 before ≡ slots_after n numbers before []
     unfolding count table_here state_at
     starting =
-        filled table_here (first_turn table_here numbers) (count numbers) (state_at []) before
+        all_filled table_here (first_turn table_here numbers) (count numbers) (state_at []) before
         (λ i l h same.
         let over = each_over i h in
         ap (λ k. put table_here i k l) (omega arith))
@@ -172,7 +172,7 @@ module _ (n : ℕ) (numbers : List ℕ) (started : reply (start_checks n numbers
         let l₀ = slots_after n numbers before trace in
         let known = after_placed before trace in
         let tell : ℕ → ℕ = λ i. get_or table_here (4 * state_at (trace ++ (activity ∷ [])) i + 3) 0 in
-        filled table_here (turn_by table_here numbers activity) (count numbers) (state_at (trace ++ (activity ∷ []))) l₀
+        all_filled table_here (turn_by table_here numbers activity) (count numbers) (state_at (trace ++ (activity ∷ []))) l₀
         (λ i l h same.
         ap (λ k. put table_here i k l)
         (next_state i h (get_or l.states i 0)

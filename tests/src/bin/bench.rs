@@ -6,7 +6,7 @@
 //!     cargo run --release --bin bench -- instructions   instructions for each event read and for each constraint watched, counted
 //!                                                       by valgrind (of the watcher alone: -- watcher instructions)
 
-use budgieleaf_tests::calls::{Calls, FindAnswer};
+use budgieleaf_tests::calls::{Calls, FindAnswer, Settings};
 use budgieleaf_tests::capi::{watch_start, watch_step, Archive, Bytes};
 use budgieleaf_tests::lent::{Memory, Record, MOST_WATCHED};
 use budgieleaf_tests::memories::right_words;
@@ -123,10 +123,11 @@ const FINDERS: [&str; 3] = ["archive", "plain", "library"];
 #[inline(never)]
 fn bench_find(which: usize, automaton: &Automaton, log: &Log, list: &mut [u16]) -> Option<FindAnswer> {
     let Log { memory, threshold, .. } = black_box(log);
+    let settings = Settings::by(*threshold);
     match which {
-        0 => Archive.find(memory, *threshold, list).ok(),
-        1 => by_words(automaton, memory, *threshold, list).ok(),
-        _ => by_library(automaton, memory, *threshold, list).ok(),
+        0 => Archive.find(memory, settings, list).ok(),
+        1 => by_words(automaton, memory, settings, list).ok(),
+        _ => by_library(automaton, memory, settings, list).ok(),
     }
 }
 

@@ -1,32 +1,36 @@
 //! Every example of document 01, computed by this implementation.
 
 use super::columns::{field, justified, line, Line};
-use super::finder::{constraints, find, meets, room_for_all, Found, NUMBERS};
+use super::finder::{constraints, find, is_confident, meets, room_for_all, Found, NUMBERS};
 use super::findrules::output;
 use super::ledger::{opens, refusal, Ledger};
 use super::memory::{is_sound, word, Model};
 use super::templates::{verdict, Verdict, Verdict::*};
-use crate::calls::Calls;
+use crate::calls::{Calls, FindAnswer, Settings};
 use crate::lent::{Memory, Record};
 
 const SAMPLE: &str = concat!(
     "    15    18     1        18\n",
-    " 1  0       1\n",
-    " 4  1       1\n",
-    " 5  0       1\n",
-    " 5  1       1\n",
-    " 6  0       1\n",
-    " 6  1       1\n",
-    " 7  0       1\n",
-    " 8  0       1\n",
-    " 9  0  1    1\n",
-    "10  0  1    1\n",
-    "12  0  1    1\n",
-    "23  0  1    1\n",
-    "23  1  0    1\n",
-    "24  0  1    1\n",
-    "24  1  0    1\n",
+    " 1  0       1    1\n",
+    " 4  1       1    1\n",
+    " 5  0       1    1\n",
+    " 5  1       1    1\n",
+    " 6  0       1    1\n",
+    " 6  1       1    1\n",
+    " 7  0       1    1\n",
+    " 8  0       1    1\n",
+    " 9  0  1    1    1\n",
+    "10  0  1    1    1\n",
+    "12  0  1    1    1\n",
+    "23  0  1    1    1\n",
+    "23  1  0    1    1\n",
+    "24  0  1    1    1\n",
+    "24  1  0    1    1\n",
 );
+
+fn by(threshold: u32) -> Settings {
+    Settings::by(threshold)
+}
 
 fn on_0_1(trace: &[u8], expected: &[(u8, Verdict)]) {
     for &(template, v) in expected {
@@ -56,34 +60,53 @@ fn starred_row_of_the_threshold() {
 fn starred_row_of_one_empty_trace() {
     let mut ledger = Ledger::fresh(1, 5, 5, 5);
     assert_eq!(ledger.add(&[]), Ok(()));
-    assert_eq!(ledger.find(1000, room_for_all(1)), Err(refusal(11, 0)));
+    assert_eq!(ledger.find(by(1000), room_for_all(1)), Err(refusal(11, 0)));
     assert_eq!(ledger.traces, [vec![]]);
 }
 
 #[test]
 fn empty_traces_count_for_nothing() {
-    let found = find(1, &[vec![], vec![0], vec![]], 1000);
-    let list = vec![[1, 0, 0, 1], [5, 0, 0, 1], [6, 0, 0, 1], [7, 0, 0, 1], [8, 0, 0, 1]];
+    let found = find(1, &[vec![], vec![0], vec![]], by(1000));
+    let list = vec![[1, 0, 0, 1, 1], [5, 0, 0, 1, 1], [6, 0, 0, 1, 1], [7, 0, 0, 1, 1], [8, 0, 0, 1, 1]];
     assert_eq!(found, Found { list, replayed: 8, traces: 1, events_read: 8 });
-    assert_eq!(found, find(1, &[vec![0]], 1000));
+    assert_eq!(found, find(1, &[vec![0]], by(1000)));
+}
+
+#[test]
+fn confidences() {
+    assert!(is_confident(19, 20, 950) && !is_confident(19, 20, 951));
+    assert!(is_confident(0, 0, 1000) && is_confident(0, 5, 0) && !is_confident(0, 5, 1));
+}
+
+/// Of three traces, one of them empty: responded existence of 0 and 1 is broken in one of the two with 0, that of 1 and 0 kept in the one with 1.
+#[test]
+fn what_seldom_applies_is_told_from_what_is_often_broken() {
+    let traces = [vec![0, 1], vec![], vec![0]];
+    let listed = |confidence| find(2, &traces, Settings { threshold: 250, confidence });
+    let (often, seldom) = ([13, 0, 1, 1, 2], [13, 1, 0, 1, 1]);
+    assert!([0, 500].iter().all(|&k| listed(k).list.contains(&often) && listed(k).list.contains(&seldom)));
+    assert!([501, 1000].iter().all(|&k| !listed(k).list.contains(&often) && listed(k).list.contains(&seldom)));
+    // Precedence goes by b, and templates 1 to 10 by every trace of length 1 or more.
+    assert!(listed(501).list.contains(&[17, 0, 1, 1, 1]) && listed(500).list.contains(&[4, 1, 1, 1, 2]));
+    assert_eq!(listed(1000).answer(), FindAnswer { listed: 13, replayed: 44, traces: 2, events_read: 106 });
 }
 
 #[test]
 fn two_traces_list_18_and_replay_44() {
-    let found = find(2, &[vec![0, 1], vec![0, 0, 1]], 1000);
+    let found = find(2, &[vec![0, 1], vec![0, 0, 1]], by(1000));
     assert_eq!((found.list.len(), found.replayed, found.traces, found.events_read), (18, 44, 2, 220));
 }
 
 #[test]
 fn what_does_not_count_is_not_read() {
     // Of two traces of 1 and 3 events: 10 constraints on an activity, 6 that read all, 7 by either and 21 by both.
-    let found = find(2, &[vec![0], vec![], vec![1, 1, 0]], 1);
+    let found = find(2, &[vec![0], vec![], vec![1, 1, 0]], by(1));
     assert_eq!((found.replayed, found.events_read), (44, 5 * 4 + 5 * 3 + 6 * 4 + 7 * 4 + 21 * 3));
 }
 
 #[test]
 fn the_sample_byte_for_byte() {
-    assert_eq!(String::from_utf8(output(b"  21000\n     1  0\n")).unwrap(), SAMPLE);
+    assert_eq!(String::from_utf8(output(b"  21000   0\n     1  0\n")).unwrap(), SAMPLE);
 }
 
 #[test]
@@ -126,13 +149,13 @@ fn fourteen_n_n_less_six_n_constraints() {
 #[test]
 fn mistakes_of_the_trade() {
     // Choice and exclusive choice hold always, and no trace has both.
-    let found = find(2, &[vec![0], vec![1]], 1000);
-    assert!(found.list.contains(&[9, 0, 1, 2]) && found.list.contains(&[10, 0, 1, 2]));
+    let found = find(2, &[vec![0], vec![1]], by(1000));
+    assert!(found.list.contains(&[9, 0, 1, 2, 2]) && found.list.contains(&[10, 0, 1, 2, 2]));
     // Co-existence once for each pair.
-    let found = find(2, &[vec![0, 1]], 1000);
-    assert!(found.list.contains(&[11, 0, 1, 1]) && !found.list.contains(&[11, 1, 0, 1]));
+    let found = find(2, &[vec![0, 1]], by(1000));
+    assert!(found.list.contains(&[11, 0, 1, 1, 1]) && found.list.iter().all(|r| r[..3] != [11, 1, 0]));
     // The last step of one trace is not before the first of the next.
-    let found = find(2, &[vec![0], vec![1]], 1);
+    let found = find(2, &[vec![0], vec![1]], by(1));
     assert!(found.list.iter().all(|r| !(16..=22).contains(&r[0])));
     // 1000 * 2 / 3 is 666 when rounded down and 667 when rounded up.
     assert!(!meets(2, 667, 3) && meets(2, 666, 3) && meets(1, 333, 3) && !meets(1, 334, 3));
@@ -160,20 +183,24 @@ fn printed(input: &[u8]) -> String {
 #[test]
 fn refusals_of_the_program_in_their_order() {
     assert_eq!(printed(b""), " 4     0\n");
-    assert_eq!(printed(b"  21000"), " 4     0\n");
-    assert_eq!(printed(b"  21000 "), " 4     0\n");
-    assert_eq!(printed(b" 02   0\n"), " 4     0\n");
-    assert_eq!(printed(b"  0   0\n"), " 2     0\n");
-    assert_eq!(printed(b" 33   0\n"), " 2     0\n");
-    assert_eq!(printed(b"  2   0\nx"), " 3     0\n");
-    assert_eq!(printed(b"  21001\nx"), " 3     0\n");
-    assert_eq!(printed(b"  21000\nx"), " 4     1\n");
-    assert_eq!(printed(b"  21000\n"), "11     0\n");
-    assert_eq!(printed(b"  21000\n     2  0\n     1  2\n"), " 5     2\n");
-    assert_eq!(printed(b"  21000\n     2  0\n     2  2\n"), " 6     2\n");
-    assert_eq!(printed(&[b"  11000\n".to_vec(), b"     1  0\n".repeat(4097)].concat()), " 7  4097\n");
+    assert_eq!(printed(b"  21000   0"), " 4     0\n");
+    assert_eq!(printed(b"  21000   0 "), " 4     0\n");
+    assert_eq!(printed(b" 02   0   0\n"), " 4     0\n");
+    assert_eq!(printed(b"  0   01001\n"), " 2     0\n");
+    assert_eq!(printed(b" 33   0   0\n"), " 2     0\n");
+    assert_eq!(printed(b"  2   0   0\nx"), " 3     0\n");
+    assert_eq!(printed(b"  210011001\nx"), " 3     0\n");
+    assert_eq!(printed(b"  210001001\nx"), "15     0\n");
+    assert_eq!(printed(b"  210001000\nx"), " 4     1\n");
+    assert_eq!(printed(b"  21000\n     1  0\n"), " 4     0\n");
+    assert_eq!(printed(b"  21000  01\n"), " 4     0\n");
+    assert_eq!(printed(b"  21000   0\nx"), " 4     1\n");
+    assert_eq!(printed(b"  21000   0\n"), "11     0\n");
+    assert_eq!(printed(b"  21000   0\n     2  0\n     1  2\n"), " 5     2\n");
+    assert_eq!(printed(b"  21000   0\n     2  0\n     2  2\n"), " 6     2\n");
+    assert_eq!(printed(&[b"  11000   0\n".to_vec(), b"     1  0\n".repeat(4097)].concat()), " 7  4097\n");
     let traces: Vec<u8> = (1..=4096).flat_map(|k| format!("{k:>6}  0\n").into_bytes()).collect();
-    assert_eq!(printed(&[b"  11000\n".to_vec(), traces].concat()), " 8  4096\n");
+    assert_eq!(printed(&[b"  11000   0\n".to_vec(), traces].concat()), " 8  4096\n");
     assert_eq!(printed(&[b'x'; 65537]), "12     0\n");
     assert_eq!(printed(&[b'x'; 65536]), " 4     0\n");
     // 0 to 31, 31 to 0, and each activity alone: 192 + 3 * 496 of the templates 1 to 10 and 12, 496 of 11, 992 of each of
@@ -181,7 +208,7 @@ fn refusals_of_the_program_in_their_order() {
     let mut lines: Vec<String> = (0..32).map(|x| format!("     1{x:>3}\n")).collect();
     lines.extend((0..32).rev().map(|x| format!("     2{x:>3}\n")));
     lines.extend((0..32).map(|x| format!("{:>6}{x:>3}\n", x + 3)));
-    assert_eq!(printed(format!(" 32   1\n{}", lines.concat()).as_bytes()), "10 11290\n");
+    assert_eq!(printed(format!(" 32   1   0\n{}", lines.concat()).as_bytes()), "10 11290\n");
 }
 
 #[test]

@@ -1,12 +1,12 @@
 //! The finder: every constraint over N activities is counted, and pruning decides only the replayed number. So a pruning that
 //! loses a constraint shows as a difference.
 
-use crate::calls::FindAnswer;
+use crate::calls::{FindAnswer, Settings};
 
 use super::templates::{occurs, verdict, Verdict};
 
-/// The numbers that a constraint takes in the list: template, a, b and fulfilled traces.
-pub const NUMBERS: usize = 4;
+/// The numbers that a constraint takes in the list: template, a, b, fulfilled and activated traces.
+pub const NUMBERS: usize = 5;
 
 /// The length of a list with room for all constraints below n.
 pub fn room_for_all(n: u32) -> usize {
@@ -46,9 +46,16 @@ pub fn meets(c: usize, t: u32, r: usize) -> bool {
     1000 * c as u64 >= t as u64 * r as u64
 }
 
-/// The fulfilled traces of a constraint.
-pub fn count(c: Constraint, traces: &[Vec<u8>]) -> usize {
-    traces.iter().filter(|w| verdict(c.template, c.a, c.b, w) == Verdict::Fulfilled).count()
+/// The traces of a constraint that are fulfilled, and those in which it is activated: its verdict is another than not activated.
+pub fn counts_of(c: Constraint, traces: &[Vec<u8>]) -> (usize, usize) {
+    let verdicts: Vec<Verdict> = traces.iter().map(|w| verdict(c.template, c.a, c.b, w)).collect();
+    let count = |f: fn(&Verdict) -> bool| verdicts.iter().filter(|&v| f(v)).count();
+    (count(|&v| v == Verdict::Fulfilled), count(|&v| v != Verdict::NotActivated))
+}
+
+/// Of so many activated traces enough are fulfilled for a confidence k.
+pub fn is_confident(fulfilled: usize, activated: usize, k: u32) -> bool {
+    1000 * fulfilled as u64 >= k as u64 * activated as u64
 }
 
 /// How many traces contain a, b, either and both.
@@ -112,16 +119,17 @@ impl Found {
 }
 
 /// R, all counts and the pruning numbers are taken over the kept traces of length 1 or more.
-pub fn find(n: u32, kept: &[Vec<u8>], threshold: u32) -> Found {
+pub fn find(n: u32, kept: &[Vec<u8>], settings: Settings) -> Found {
+    let Settings { threshold, confidence } = settings;
     let traces: Vec<Vec<u8>> = kept.iter().filter(|w| !w.is_empty()).cloned().collect();
     let r = traces.len();
     let s = support(n, &traces);
     let all = constraints(n);
     let list = all
         .iter()
-        .map(|&c| (c, count(c, &traces)))
-        .filter(|&(_, k)| meets(k, threshold, r))
-        .map(|(c, k)| [c.template as u16, c.a as u16, c.b as u16, k as u16])
+        .map(|&c| (c, counts_of(c, &traces)))
+        .filter(|&(_, (fulfilled, activated))| meets(fulfilled, threshold, r) && is_confident(fulfilled, activated, confidence))
+        .map(|(c, (fulfilled, activated))| [c.template as u16, c.a as u16, c.b as u16, fulfilled as u16, activated as u16])
         .collect();
     let kept: Vec<Constraint> = all.iter().copied().filter(|&c| is_kept(c, &s, threshold, r)).collect();
     let read_by =

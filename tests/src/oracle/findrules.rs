@@ -2,34 +2,34 @@
 
 use super::columns::{field, justified};
 use super::finder::{Found, NUMBERS};
-use super::ledger::{opens, refusal, Ledger, Refusal};
+use super::ledger::{in_range, opens, refusal, Ledger, Refusal};
+use crate::calls::Settings;
 
 pub const MOST_INPUT: usize = 65536;
 pub const EVENTS: usize = 6552;
 pub const ENDS: usize = 4095;
 pub const WORDS: usize = ENDS;
-pub const RULES: usize = 8000;
+pub const RULES: usize = 6400;
 
-/// N and threshold, well formed but not yet looked at.
-fn settings(input: &[u8]) -> Option<(u32, u32)> {
-    if input.len() < 8 || input[7] != b'\n' {
+/// N, threshold and confidence, well formed but not yet looked at.
+fn settings(input: &[u8]) -> Option<(u32, Settings)> {
+    if input.len() < 12 || input[11] != b'\n' {
         return None;
     }
-    Some((field(&input[..3])?, field(&input[3..7])?))
+    let n = field(&input[..3])?;
+    Some((n, Settings { threshold: field(&input[3..7])?, confidence: field(&input[7..11])? }))
 }
 
 pub fn answer(input: &[u8]) -> Result<Found, Refusal> {
     if input.len() > MOST_INPUT {
         return Err(refusal(12, 0));
     }
-    let (n, threshold) = settings(input).ok_or(refusal(4, 0))?;
+    let (n, settings) = settings(input).ok_or(refusal(4, 0))?;
     opens(n)?;
-    if !(1..=1000).contains(&threshold) {
-        return Err(refusal(3, 0));
-    }
+    in_range(settings)?;
     let mut ledger = Ledger::fresh(n, EVENTS, ENDS, WORDS);
-    ledger.read(&input[8..])?;
-    ledger.find(threshold, NUMBERS * RULES)
+    ledger.read(&input[12..])?;
+    ledger.find(settings, NUMBERS * RULES)
 }
 
 fn printed(found: &Found) -> String {
@@ -39,9 +39,10 @@ fn printed(found: &Found) -> String {
     }
     out += &format!("{:>10}", found.events_read);
     out.push('\n');
-    for &[template, a, b, count] in &found.list {
+    for &[template, a, b, fulfilled, activated] in &found.list {
         let second = if template <= 8 { "   ".to_string() } else { justified(b as u32, 3) };
-        out += &format!("{}{}{}{}\n", justified(template as u32, 2), justified(a as u32, 3), second, justified(count as u32, 5));
+        let counts = [fulfilled, activated].map(|count| justified(count as u32, 5)).concat();
+        out += &format!("{}{}{}{}\n", justified(template as u32, 2), justified(a as u32, 3), second, counts);
     }
     out
 }

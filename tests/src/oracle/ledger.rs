@@ -3,6 +3,7 @@
 
 use super::columns;
 use super::finder::{self, Found, NUMBERS};
+use crate::calls::Settings;
 
 pub const LONGEST_TRACE: usize = 4096;
 pub const MOST_TRACES: usize = 4095;
@@ -25,6 +26,15 @@ pub struct Ledger {
     pub events_room: usize,
     pub ends_room: usize,
     pub words_room: usize,
+}
+
+/// 3, and right after it 15.
+pub fn in_range(settings: Settings) -> Result<(), Refusal> {
+    match settings {
+        Settings { threshold: 0 | 1001.., .. } => Err(refusal(3, 0)),
+        Settings { confidence: 1001.., .. } => Err(refusal(15, 0)),
+        _ => Ok(()),
+    }
 }
 
 pub fn opens(n: u32) -> Result<(), Refusal> {
@@ -111,14 +121,12 @@ impl Ledger {
         Ok(added as u32)
     }
 
-    pub fn find(&self, threshold: u32, list_room: usize) -> Result<Found, Refusal> {
-        if !(1..=1000).contains(&threshold) {
-            return Err(refusal(3, 0));
-        }
+    pub fn find(&self, settings: Settings, list_room: usize) -> Result<Found, Refusal> {
+        in_range(settings)?;
         if self.traces.iter().all(|w| w.is_empty()) {
             return Err(refusal(11, 0));
         }
-        let found = finder::find(self.n, &self.traces, threshold);
+        let found = finder::find(self.n, &self.traces, settings);
         if list_room < NUMBERS * found.list.len() {
             return Err(refusal(10, found.list.len()));
         }

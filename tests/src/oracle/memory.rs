@@ -4,7 +4,7 @@
 use super::finder::{Found, NUMBERS};
 use super::ledger::{opens, refusal, Ledger, Refusal, LONGEST_TRACE, MOST_TRACES};
 use super::templates::occurs;
-use crate::calls::{Calls, FindAnswer};
+use crate::calls::{Calls, FindAnswer, Settings};
 use crate::lent::{Memory, Record};
 
 /// The number with bit s set for each activity s, 0 to 31, that occurs in the trace.
@@ -83,11 +83,11 @@ impl Calls for Model {
         Model::grow(memory, |ledger| ledger.read(log))
     }
 
-    fn find(&mut self, memory: &Memory, threshold: u32, list: &mut [u16]) -> Result<FindAnswer, Refusal> {
+    fn find(&mut self, memory: &Memory, settings: Settings, list: &mut [u16]) -> Result<FindAnswer, Refusal> {
         if !is_sound(memory) {
             return Err(refusal(1, 0));
         }
-        let found = kept(memory).find(threshold, list.len())?;
+        let found = kept(memory).find(settings, list.len())?;
         lay_out(&found, list);
         Ok(found.answer())
     }

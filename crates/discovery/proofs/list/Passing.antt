@@ -1,7 +1,7 @@
 -- Passing over constraints, one after the other.
 -- Assumes nothing.
 use Prim.Native.Nat.{ℕ, ◌+◌, ◌*◌, ◌≤◌, ◌<◌}
-use mathlib.Core.Path.{◌≡◌, refl, sym, ap, subst, ◌∙◌}
+use mathlib.Core.Path.{◌≡◌, refl, sym, ap, ap₂, subst, ◌∙◌}
 use mathlib.Core.Bool.{Bool, true, false, cond}
 use mathlib.Core.List.Memᴰ
 use mathlib.Core.List.{List, [], ◌∷◌, ◌++◌, append_assoc, append-nil, Memᴰ}
@@ -14,7 +14,7 @@ use Rattle.base.specs.Lists.{non_empty, count}
 use Rattle.base.proofs.Lists.{filter_append, filter_member, filter_within, count_append, count_at_most, flat_map_append}
 use Rattle.base.proofs.Stores.{sets_append}
 use Rattle.declare.specs.declared.constraints.Constraint.{Constraint}
-use Rattle.declare.specs.Meaning.{fulfilled}
+use Rattle.declare.specs.Meaning.{activated, fulfilled}
 use Rattle.declare.specs.Traces.{most_activities}
 use Rattle.declare.specs.Constraints.{constraints, Over}
 use Rattle.declare.proofs.constraints.Members.{constraints_number, constraints_over, few_numbers}
@@ -27,26 +27,27 @@ use Rattle.replay.specs.declared.query.Query.{Query}
 use Rattle.replay.specs.Query.{asked_by}
 use Rattle.discovery.specs.declared.list.Tally.{Tally}
 use Rattle.pruning.specs.declared.Measure.{Measure}
-use Rattle.pruning.specs.Question.{Question, measure_of, reads, fulfilments, survives}
+use Rattle.pruning.specs.Question.{Question, measure_of, reads, fulfilments, activations, survives}
 use Rattle.discovery.specs.declared.row.Counts.{Counts}
 use Rattle.discovery.specs.Listing.{lists, numbers, row, rows, counts_of, is_listed, events_read}
 use Rattle.replay.specs.declared.Replayed.{Replayed}
 use Rattle.replay.specs.Replays.{Replays}
 use Rattle.discovery.specs.Passes.{Passes, Considers, TallyFits, none_yet}
-use Rattle.pruning.proofs.Pruning.{fulfilled_survives}
-use Rattle.discovery.proofs.Listing.{rows_length, read_append, read_at_most}
+use Rattle.discovery.proofs.Listing.{listed_survives, rows_length, read_append, read_at_most}
 
--- the fulfilled traces are few
+-- few of a query's traces pass a test, since there are few
+counted_few : (query : Query) (p : List ℕ → Bool) → count p (asked_by query).traces ≤ most_traces
+counted_few query p =
+    let traces = traces_in query.kept in
+    omega (arith, count_at_most p (filter non_empty traces), count_at_most non_empty traces, few_traces query.kept)
+
 pub fulfilments_few : (query : Query) (c : Constraint) → fulfilments (asked_by query).traces c ≤ most_traces
 unfolding fulfilments
-fulfilments_few query c =
-    let traces = traces_in query.kept in
-    omega (
-      arith,
-      count_at_most (fulfilled c.template c.a c.b) (filter non_empty traces),
-      count_at_most non_empty traces,
-      few_traces query.kept,
-    )
+fulfilments_few query c = counted_few query (fulfilled c.template c.a c.b)
+
+pub activations_few : (query : Query) (c : Constraint) → activations (asked_by query).traces c ≤ most_traces
+unfolding activations
+activations_few query c = counted_few query (activated c.template c.a c.b)
 
 -- the events are few
 pub events_few : (query : Query) → total (asked_by query).traces ≤ most_events
@@ -114,13 +115,14 @@ module _ {q : Question} where
 
   module _ {c : Constraint} {t : Tally} {list : List ℕ} where
     pub considers_kept :
-        {r : Replayed} {t' : Tally} {list' : List ℕ} → Replays q c t.replayed t.events_read r → survives q c ≡ true →
-        Passes (measure_of q) (λ c. record { fulfilled = r.fulfilled }) (c ∷ []) t.listed list t'.listed list' → t'.replayed ≡ r.replayed →
+        {r : Replayed} {activated : ℕ} {t' : Tally} {list' : List ℕ} → Replays q c t.replayed t.events_read r → survives q c ≡ true →
+        activated ≡ activations q.traces c →
+        Passes (measure_of q) (λ c. record { fulfilled = r.fulfilled; activated = activated }) (c ∷ []) t.listed list t'.listed list' → t'.replayed ≡ r.replayed →
         t'.events_read ≡ r.events_read → Considers q (c ∷ []) t list t' list'
     unfolding events_read
-    considers_kept replays kept p counted read =
+    considers_kept replays kept in_these p counted read =
         record {
-          passes = passes_by (ap (λ (n : ℕ). record { fulfilled = n }) replays.fulfilled) p;
+          passes = passes_by (ap₂ (λ (n k : ℕ). record { fulfilled = n; activated = k }) replays.fulfilled in_these) p;
           replayed = rw kept (counted ∙ replays.counted);
           read = rw kept (omega (arith, read, replays.read, total_append (filter (reads c) q.traces) []));
         }
@@ -140,7 +142,7 @@ module _ {q : Question} where
       {t t' : Tally} {list list' : List ℕ} (cs : List Constraint) → Considers q (filter (survives q) cs) t list t' list' →
       Considers q cs t list t' list'
   considers_survivors {t = t} {list = list} cs p =
-      let short = filter_within (is_listed q) (survives q) (fulfilled_survives q) cs in
+      let short = filter_within (is_listed q) (survives q) (listed_survives q) cs in
       let twice = filter_within (survives q) (survives q) (λ c h. h) cs in
       record {
         passes = record { listed = omega (arith, p.passes.listed, ap length short); written = p.passes.written ∙ ap (λ cs. sets list (numbers * t.listed) (rows (counts_of q) cs)) short };

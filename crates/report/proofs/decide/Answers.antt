@@ -1,11 +1,12 @@
--- Each way out is one of the first four checks, or the answer to the log.
-use Rattle.std.proofs.Common.{◌≡◌, ◌-◌, sym, ◌∙◌, arith, length, drop, length-drop}
+-- Each way out is one of the checks before the log, or the answer to the log.
+use Rattle.std.proofs.Common.{◌≡◌, ◌-◌, sym, ap, ◌∙◌, arith, length, drop, length-drop}
 use Rattle.std.proofs.Math.Seq.{take_all}
 use Rattle.std.proofs.lemmas.Result.{err_from_is_err_and}
 use Rattle.answers.specs.declared.Reason.{Reason}
+use Rattle.answers.specs.Answers.{done_said}
 use Rattle.eventlog.specs.Calls.{empty}
 use Rattle.report.proofs.Setting.{set_by}
-use Rattle.report.proofs.Deciding.{open_accepted, too_long, malformed, undeclarable, out_of_range, goes_on}
+use Rattle.report.proofs.Deciding.{open_accepted, too_long, malformed, undeclarable, refused_settings, goes_on}
 use Rattle.report.proofs.decide.Goals as goal
 
 pub returns-then-input-gt-MOST_INPUT : goal.returns-then-input-gt-MOST_INPUT
@@ -24,12 +25,13 @@ returns-in_err-store c =
     let left = err_from_is_err_and c.from_residual-in_err-store.result c.from_residual-in_err-store.ensures.1 in
     rw (left.1, left.2) (undeclarable _ _ c.if-input-gt-MOST_INPUT.false _ _ line _ (c.in_err-store.ensures (empty 0)))
 
-pub returns-then-not-in_range : goal.returns-then-not-in_range
-returns-then-not-in_range c =
+pub returns-in_err-check : goal.returns-in_err-check
+returns-in_err-check c =
     let line = set_by (sym c.read_settings.ensures ∙ c.in_ok-activities.ensures.ok_part) in
     let fresh = open_accepted (c.in_ok-store.ensures (empty 0)) in
-    rw c.into-then-not-in_range.ensures
-    (out_of_range _ _ c.if-input-gt-MOST_INPUT.false _ _ line fresh.declared (sym c.in_range.ensures ∙ c.if-not-in_range.true))
+    let left = err_from_is_err_and c.from_residual-in_err-check.result c.from_residual-in_err-check.ensures.1 in
+    rw (left.1, left.2)
+    (refused_settings _ _ c.if-input-gt-MOST_INPUT.false _ _ line fresh.declared _ (ap done_said (sym (c.in_err-check.was {u = tt})) ∙ c.check.ensures))
 
 pub slice_bounds-read_and_find-count : goal.slice_bounds-read_and_find-count
 slice_bounds-read_and_find-count c = (set_by (sym c.read_settings.ensures ∙ c.in_ok-activities.ensures.ok_part)).long
@@ -47,6 +49,6 @@ returns c =
     let input = c.args.input.now in
     let line = set_by (sym c.read_settings.ensures ∙ c.in_ok-activities.ensures.ok_part) in
     let fresh = open_accepted (c.in_ok-store.ensures (empty 0)) in
-    goes_on _ _ c.if-input-gt-MOST_INPUT.false _ _ line fresh.declared _ (sym c.in_range.ensures ∙ c.if-not-in_range.false)
-    (take_all (length input - 8) (drop 8 input) (omega (arith, length-drop 8 input)))
+    goes_on _ _ c.if-input-gt-MOST_INPUT.false _ _ line fresh.declared _ (ap done_said (sym (c.in_ok-check.was {u = tt})) ∙ c.check.ensures)
+    (take_all (length input - 12) (drop 12 input) (omega (arith, length-drop 12 input)))
     (rw fresh.same at c.read_and_find.ensures)

@@ -3,7 +3,7 @@ use Rattle.declare.specs.Traces.{most_activities}
 use Rattle.std.specs.List.{filter}
 use Rattle.declare.specs.Constraints.{constraints}
 use Rattle.pruning.specs.Walk.{keeps, left}
-use Rattle.replay.proofs.Querying.{kept_asked}
+use Rattle.replay.proofs.Querying.{kept_asked, activated_asked}
 use Rattle.discovery.proofs.list.Passing.{events_few, passing_few, passing_fits, passing_over, passing_survives, passing_next, passing_done, considers_none}
 use Rattle.discovery.proofs.list.pass.Goals as goal
 
@@ -16,7 +16,7 @@ loop-c-init c =
       all =
           ap left c.into_iter-c-iterator.ensures.into_iter_gives ∙ c.over-c-items.ensures
           ∙ ap (λ n. filter (keeps c.count.new.self) (constraints n)) all
-          ∙ kept_asked query c.none-frequent.result c.count.ensures c.words.ensures;
+          ∙ kept_asked query c.none-pairs.result c.count.ensures c.words.ensures;
     }
 
 pub consider-tally-requires-clause-replayable : goal.consider-tally-requires-clause-replayable
@@ -29,6 +29,11 @@ consider-tally-requires-clause-replayable c =
       survived = passing_survives passing first;
       fits = passing_fits passing (events_few query) query.few_activities;
     }
+
+pub consider-tally-requires-clause-counted : goal.consider-tally-requires-clause-counted
+consider-tally-requires-clause-counted c =
+    activated_asked c.args.query c.none-pairs.result c.count.ensures c.words.ensures _
+    (passing_over c.loop-c.invariant (c.in-Some.ensures {u = tt}).steps)
 
 pub consider-tally-requires-clause-tally_fits : goal.consider-tally-requires-clause-tally_fits
 consider-tally-requires-clause-tally_fits c = passing_few c.loop-c.invariant (events_few c.args.query)

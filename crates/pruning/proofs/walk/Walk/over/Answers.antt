@@ -8,4 +8,4 @@ use Rattle.pruning.proofs.walk.Walk.over.Goals as goal
 pub returns : goal.returns
 returns c =
     c.stand.ensures.all
-    ∙ ap (filter (keeps c.args.frequent.now)) (from_the_first c.min.result ∙ ap constraints c.min.ensures)
+    ∙ ap (filter (keeps c.args.pairs.now)) (from_the_first c.min.result ∙ ap constraints c.min.ensures)
