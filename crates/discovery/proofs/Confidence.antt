@@ -3,7 +3,7 @@
 use Prim.Native.Nat.{ℕ, ◌*◌, ◌≤◌}
 use mathlib.Core.Path.{◌≡◌, refl, ap, ◌∙◌, fun_ext}
 use mathlib.Core.Bool.{true, false, ◌&&◌, and-true}
-use mathlib.Core.List.{List}
+use mathlib.Core.List.{List, [], ◌∷◌}
 use native.Mathlib.Omega.{arith}
 use native.Mathlib.Nat.{mul-le-mul}
 use borrow.Author.Tests.{le-leb, lt-leb}
@@ -14,8 +14,8 @@ use Rattle.base.proofs.Lists.{count_weaker}
 use Rattle.base.proofs.Ranges.{range_facts}
 use Rattle.declare.specs.Meaning.{activated, holds, fulfilled}
 use Rattle.declare.specs.declared.constraints.Constraint.{Constraint}
-use Rattle.declare.specs.Constraints.{constraints}
-use Rattle.pruning.specs.Question.{Question, trace_count, threshold_in_range, measure_of, meets, confident, fulfilments, activations}
+use Rattle.declare.specs.Constraints.{constraint, constraints}
+use Rattle.pruning.specs.Question.{Question, question_over, trace_count, threshold_in_range, measure_of, meets, confident, fulfilments, activations}
 use Rattle.discovery.specs.Listing.{is_listed, listed, replayed, events_read}
 use Rattle.discovery.specs.Examples.{seldom}
 use Rattle.discovery.specs.Claims.{with_confidence, ByConfidence}
@@ -65,7 +65,10 @@ half_of_before claim = (claim.replayed_same (seldom 0) 501, claim.read_same (sel
 listed_before : ByConfidence → listed (seldom 0) ≡ filter (λ c. leb (250 * 2) (1000 * fulfilments (seldom 0).traces c)) (constraints 2)
 listed_before claim = claim.by_threshold (seldom 501)
 
-none_of_none :
-    ByConfidence → (c : Constraint) → activations (seldom 1000).traces c ≡ 0 →
-    (leb (1000 * 0) (1000 * 0) ≡ true) × (is_listed (seldom 1000) c ≡ false)
-none_of_none claim c = claim.never_activated (seldom 1000) c refl (omega arith)
+-- response of 1 and 0 over one trace of 0 alone: no trace activates it
+abbrev of_0 : Question
+of_0 = question_over 2 ((0 ∷ []) ∷ []) (record { threshold = 1; confidence = 1000 })
+
+none_of_none : ByConfidence → (leb (1000 * 0) (1000 * 0) ≡ true) × (is_listed of_0 (constraint 14 1 0) ≡ false)
+unfolding activations activated
+none_of_none claim = claim.never_activated of_0 (constraint 14 1 0) refl (omega arith) refl

@@ -1,12 +1,13 @@
 -- Document 01's starred runs on the sorting table as one table with one theorem about the definitions; its sample, its two runs,
 -- bounds and empty traces (document 02) beside them.
 -- Assumes nothing.
-use Rattle.std.specs.Prelude.{ℕ, ◌≡◌, refl, Bool, true, false, List, [], ◌∷◌, replicate}
+use Rattle.std.specs.Prelude.{ℕ, ◌≡◌, refl, Bool, true, false, List, [], ◌∷◌, map, replicate}
+use Rattle.base.specs.Lists.{range}
 use Rattle.base.specs.Checks.{Reply, gives, refused, reply}
 use Rattle.declare.specs.declared.Verdict.{Verdict}
 use Rattle.declare.specs.declared.Verdict.TheVariants.{Fulfilled, NotActivated, Violated}
 use Rattle.declare.specs.Meaning.{meanings, holds, activated, fulfilled, verdict}
-use Rattle.declare.specs.Constraints.{constraints}
+use Rattle.declare.specs.Constraints.{constraint, constraints}
 use Rattle.pruning.specs.declared.Settings.{Settings}
 use Rattle.pruning.specs.Question.{Question, question_over, meets, confident, fulfilments, activations, support}
 use Rattle.discovery.specs.Listing.{listed, replayed, events_read, layout}
@@ -162,6 +163,33 @@ activated_ones_hold = refl
 pub at_half : find_values (seldom 500) ≡ 29 ∷ 44 ∷ 2 ∷ 106 ∷ []
 unfolding constraints fulfilments activations support listed replayed events_read layout fulfilled activated holds meanings
 at_half = refl
+
+-- A row has the fulfilled traces first: 2 and 5 are activated in both of these traces, and each holds on one of them.
+pub fulfilled_then_activated : List Case
+fulfilled_then_activated =
+    finds (question_over 1 ((0 ∷ []) ∷ [] ∷ (0 ∷ 0 ∷ []) ∷ []) (by_both 500 500))
+    (
+    1 ∷ 0 ∷ 0 ∷ 2 ∷ 2 ∷
+    2 ∷ 0 ∷ 0 ∷ 1 ∷ 2 ∷
+    5 ∷ 0 ∷ 0 ∷ 1 ∷ 2 ∷
+    6 ∷ 0 ∷ 0 ∷ 2 ∷ 2 ∷
+    7 ∷ 0 ∷ 0 ∷ 2 ∷ 2 ∷
+    8 ∷ 0 ∷ 0 ∷ 2 ∷ 2 ∷
+    []
+    )
+    (6 ∷ 8 ∷ 2 ∷ 24 ∷ []) ∷ []
+
+pub fulfilled_then_activated_hold : all_by_definition fulfilled_then_activated ≡ fulfilled_then_activated
+unfolding fulfilled_then_activated constraints fulfilments activations support listed replayed events_read layout verdict fulfilled activated holds meanings
+fulfilled_then_activated_hold = refl
+
+-- in how many traces each template on 0 and 1 is activated, beside an activity that is neither
+pub activated_by_template :
+    (let q = question_over 3 ((0 ∷ 1 ∷ []) ∷ (0 ∷ []) ∷ [] ∷ (0 ∷ 0 ∷ []) ∷ (1 ∷ []) ∷ (2 ∷ []) ∷ []) (by 1) in
+    map (λ template. activations q.traces (constraint template 0 1)) (range 1 24)
+    ≡ 5 ∷ 5 ∷ 5 ∷ 5 ∷ 5 ∷ 5 ∷ 5 ∷ 5 ∷ 5 ∷ 5 ∷ 4 ∷ 4 ∷ 3 ∷ 3 ∷ 3 ∷ 3 ∷ 2 ∷ 2 ∷ 2 ∷ 4 ∷ 4 ∷ 4 ∷ 4 ∷ 4 ∷ [])
+unfolding activations activated
+activated_by_template = refl
 
 -- a threshold is 1 to 1000, and a confidence at most 1000; a slice for five constraints has 25 numbers, and for a shorter one the detail is 5; the
 -- order is 3, 15, 11, 10
