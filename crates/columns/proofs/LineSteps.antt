@@ -6,7 +6,7 @@ use mathlib.Core.Bool.{false}
 use mathlib.Core.List.{List, ◌∷◌}
 use native.Mathlib.Omega.{arith}
 use lib.Dec.{eqb, leb, ltb}
-use borrow.Author.Tests.{leb-false, eqb-true, eqb-false}
+use borrow.Author.Tests.{leb-false, ltb-false, eqb-true, eqb-false}
 use Rattle.std.specs.Prelude.{Ok, Err, if◌then◌else◌}
 use Rattle.answers.specs.declared.Reason.{Reason}
 use Rattle.eventlog.specs.declared.Room.{Room}
@@ -31,6 +31,12 @@ module _ (o : Room) (p : Progress) (w : Bounded o p) where
       either (leb o.space.events p.last)
       (λ q. let z : Err Reason.NoSpace ≡ Ok tt = rw q at e in absurd cc)
       (λ q. leb-false o.space.events p.last q)
+
+  pub rises : (entry : Entry) → fault_of o p entry ≡ Ok tt → p.number ≤ entry.number
+  rises entry e =
+      either (ltb entry.number p.number)
+      (λ q. let z : Err Reason.NumberFalls ≡ Ok tt = rw q at e in absurd cc)
+      (λ q. ltb-false entry.number p.number q)
 
   pub faultless : (entry : Entry) → fault_of o p entry ≡ Ok tt → Faultless o p entry
   faultless entry e =

@@ -5,9 +5,9 @@ use mathlib.Core.Path.{◌≡◌, refl, ap, ◌∙◌}
 use mathlib.Core.List.{List, [], ◌∷◌, ◌++◌}
 use native.Mathlib.Omega.{arith}
 use lib.ListN.{length}
-use mathlib.Core.Bool.{true}
+use mathlib.Core.Bool.{true, false}
 use Rattle.std.specs.List.{filter}
-use Rattle.base.proofs.Bools.{and_left}
+use Rattle.base.proofs.Bools.{and_left, fails_too}
 use Rattle.base.specs.Lists.{flat_map}
 use Rattle.base.proofs.Lists.{count_weaker, count_at_most, flat_map_append}
 use Rattle.eventlog.specs.Store.{kept, total}
@@ -41,6 +41,10 @@ replayed_at_most q = omega (arith, count_at_most (survives q) (constraints q.act
 -- what is listed, pruning keeps: its count meets the threshold
 pub listed_survives : (q : Question) (c : Constraint) → is_listed q c ≡ true → survives q c ≡ true
 listed_survives q c h = fulfilled_survives q c (and_left (meets (measure_of q) (fulfilments q.traces c)) (confident q.settings (fulfilments q.traces c) (activations q.traces c)) h)
+
+-- what pruning drops is not listed
+pub pruned_not_listed : (q : Question) (c : Constraint) → survives q c ≡ false → is_listed q c ≡ false
+pruned_not_listed q c = fails_too _ _ (listed_survives q c)
 
 -- what is listed was replayed
 pub listed_within_replayed : (q : Question) → length (listed q) ≤ length (replayed q)

@@ -1,7 +1,7 @@
 -- What is_sound finds, trace by trace with its word, is what a sound store asks of events and words.
 -- Assumes nothing.
 use Prim.Native.Nat.{ℕ, ◌≤◌}
-use mathlib.Core.Path.{◌≡◌, refl, sym, ap, ◌∙◌}
+use mathlib.Core.Path.{◌≡◌, refl, sym, ap, ap₂, ◌∙◌}
 use mathlib.Core.Bool.{Bool, true, false, ◌&&◌, and-true, and-false}
 use mathlib.Core.List.{List, [], ◌∷◌, map}
 use native.Mathlib.Omega.{arith}
@@ -11,14 +11,33 @@ use lib.Seq.{length-take-le}
 use borrow.Author.Tests.{le-leb}
 use Rattle.std.specs.List.{list_all, zip}
 use Rattle.base.specs.Lists.{equal_lists}
-use Rattle.declare.specs.Traces.{declarable, all_below}
+use Rattle.base.proofs.Bools.{either}
+use Rattle.base.proofs.Ranges.{range_facts}
+use Rattle.declare.specs.Traces.{most_activities, declarable, all_below}
 use Rattle.eventlog.specs.Store.{Memory, most_traces, rising, last_end, kept, sound}
 use Rattle.eventlog.specs.Words.{word_of}
 use Rattle.eventlog.proofs.Laws.{kept_ends, kept_words, cut_length, declared_traces}
+use Rattle.eventlog.proofs.WordBits.{low, low_declared}
 
 -- a trace with its word: the trace's events are declared, and the word is its word
 abbrev pub right_pair : ℕ → List ℕ × ℕ → Bool
 right_pair n pair = all_below n pair.0 && eqb pair.1 (word_of pair.0)
+
+-- the same by the lowest five bits of each event
+abbrev pub right_low_pair : ℕ → List ℕ × ℕ → Bool
+right_low_pair n pair = all_below n pair.0 && eqb pair.1 (word_of (map low pair.0))
+
+low_is_right : (n : ℕ) → n ≤ most_activities → (pair : List ℕ × ℕ) → right_low_pair n pair ≡ right_pair n pair
+low_is_right n few pair =
+    either (all_below n pair.0)
+    (λ declared. ap (λ events. all_below n pair.0 && eqb pair.1 (word_of events)) (low_declared n pair.0 few declared))
+    (λ undeclared. rw undeclared refl)
+
+pub low_are_right :
+    (n : ℕ) → declarable n ≡ true → (pairs : List (List ℕ × ℕ)) → list_all (right_low_pair n) pairs ≡ list_all (right_pair n) pairs
+low_are_right n declared [] = refl
+low_are_right n declared (pair ∷ pairs) =
+    ap₂ (λ first rest. first && rest) (low_is_right n (range_facts 1 n most_activities declared).1 pair) (low_are_right n declared pairs)
 
 exchanged : (p q r s : Bool) → (p && q) && (r && s) ≡ (p && r) && (q && s)
 exchanged true true r s = refl

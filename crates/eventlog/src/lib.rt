@@ -5,11 +5,11 @@ mod kept_traces;
 mod sound_store;
 mod words;
 
-ghost use Rattle.std.specs.Prelude.{◌≡◌, ◌≤◌, ◌&&◌, [], ◌+◌, not, eqb, ltb, length, position, IfOk};
+ghost use Rattle.std.specs.Prelude.{◌≡◌, ◌≤◌, ◌&&◌, [], ◌+◌, ◌%◌, not, eqb, ltb, length, map, position, IfOk};
 ghost use Rattle.std.proofs.lemmas.List.Edits.{sets};
 ghost use Rattle.base.specs.Checks.{gives, reply};
 ghost use Rattle.answers.specs.Answers.{done_said, said_by};
-ghost use Rattle.declare.specs.Traces.{all_below};
+ghost use Rattle.declare.specs.Traces.{most_activities, all_below};
 ghost use Rattle.eventlog.specs.Calls.{Adds, checks_of_add, open_said, opened, Opens, with_trace};
 ghost use Rattle.eventlog.specs.Store.{lent, last_end as last_end_of, last_kept, rising, sound, room, full as full_test};
 ghost use Rattle.eventlog.specs.Words.{word_of};
@@ -18,7 +18,7 @@ use answers::{Reason, Refusal};
 use declare::LONGEST_TRACE;
 pub use kept_traces::{KeptParts, KeptTraces, KeptWords};
 pub use sound_store::SoundStore;
-use words::word_of;
+use words::word_of_declared;
 pub use words::{bit_of, with_bit};
 
 // The record: how many activities (document 01: steps, numbers below N) are declared, and how many traces are kept. C passes it as it is,
@@ -86,15 +86,16 @@ fn ends_rise(ends: &[u32]) -> bool
 }
 
 // What a sound store asks of each trace: its events are declared, and the word beside it is its word. Each event is read once.
+// By an event's lowest five bits, which are all of a declared one's: so no test but the one for declared stands before its bit.
 fn is_sound_trace(n: u32, trace: &[u8], word: u32) -> bool
-    ensures { result ≡ (all_below n trace.now && eqb word (word_of trace.now)) }
+    ensures { result ≡ (all_below n trace.now && eqb word (word_of (map (λ event. event % most_activities) trace.now))) }
 {
     let mut made = 0;
     for &event in trace {
         if n <= u32::from(event) {
             return false;
         }
-        made = with_bit(made, event);
+        made |= 1 << (event % 32);
     }
     word == made
 }
@@ -209,7 +210,7 @@ fn append(
 {
     copy_in(events, from, trace);
     ends[store.traces as usize] = (from + trace.len()) as u32;
-    words[store.traces as usize] = word_of(trace);
+    words[store.traces as usize] = word_of_declared(trace);
     store.traces += 1;
 }
 

@@ -1,13 +1,15 @@
-use Rattle.std.proofs.Common.{arith, refl, sym, ap, ◌∙◌, take, get_or}
+use Rattle.std.proofs.Common.{arith, refl, sym, ap, ◌∙◌, take, get_or, map}
 use lib.Seq.{take-suc}
 use native.Mathlib.Numerals.{add-one}
+use Rattle.std.specs.Prelude.{bit_or}
+use Rattle.std.proofs.lemmas.Nat.{one_shl}
 use borrow.Author.Tests.{lt-ltb}
 use Rattle.std.proofs.Math.Seq.{take_all}
 use Rattle.base.proofs.Bools.{and_both}
 use Rattle.base.proofs.Lists.{all_last}
 use Rattle.declare.specs.Traces.{all_below}
 use Rattle.eventlog.specs.Words.{word_of}
-use Rattle.eventlog.proofs.WordBits.{word_of_none, one_more}
+use Rattle.eventlog.proofs.WordBits.{word_of_none, low, one_low_more}
 use Rattle.eventlog.proofs.is_sound_trace.Goals as goal
 
 pub loop-event-init : goal.loop-event-init
@@ -24,9 +26,10 @@ loop-event-preserved c =
           ∙ all_last _ (take i trace) (get_or trace i 0)
           ∙ and_both _ _ c.loop-event.invariant.declared (lt-ltb _ _ (omega (arith, c.from.ensures, c.if-n-from.false)));
       made =
-          c.with_bit-made.ensures
-          ∙ rw c.loop-event.invariant.made (one_more (take i trace) (get_or trace i 0))
-          ∙ ap word_of (sym more);
+          rw c.loop-event.invariant.made
+          (ap (bit_or (word_of (map low (take i trace)))) (one_shl (low (get_or trace i 0)) 32 (omega arith))
+          ∙ one_low_more (take i trace) (get_or trace i 0)
+          ∙ ap (λ events. word_of (map low events)) (sym more));
     }
 
 pub returns : goal.returns
