@@ -4,7 +4,7 @@ use Prim.Native.Nat.{ℕ, ◌+◌, ◌^◌, ◌≤◌, ◌<◌}
 use native.Mathlib.Omega.{arith}
 use mathlib.Core.Path.{◌≡◌, sym}
 use mathlib.Core.Bool.{true, false, ◌||◌}
-use mathlib.Core.List.{List, [], map}
+use mathlib.Core.List.{List, []}
 use borrow.Author.Tests.{ltb-false, eqb-false, ne_eqb, not-false}
 use lib.Dec.{eqb}
 use lib.ListN.{length}
@@ -16,7 +16,6 @@ use Rattle.eventlog.specs.declared.Room.{Room}
 use Rattle.eventlog.specs.Store.{most_traces, Memory, sound, last_end, room, full}
 use Rattle.eventlog.specs.Calls.{checks_of_add}
 use Rattle.eventlog.proofs.Laws.{Addable, sound_facts, last_end_bound}
-use Rattle.eventlog.proofs.WordBits.{low, low_declared}
 
 -- one trace more can be kept where this room is left
 pub record NotFull (r : Room) : Type 0 where
@@ -73,7 +72,6 @@ pub record Bounds (m : Memory) (trace : List ℕ) (from : ℕ) : Type 0 where
   pub few : m.store.traces < most_traces
   pub has_end : m.store.traces < length m.ends
   pub has_word : m.store.traces < length m.words
-  pub low_bits : map low trace ≡ trace
 
 pub bounds :
     (m : Memory) (trace : List ℕ) {from : ℕ} →
@@ -87,5 +85,4 @@ bounds m trace h e =
       few = a.below_most;
       has_end = a.has_end;
       has_word = a.has_word;
-      low_bits = low_declared m.store.activities trace (sound_facts m passed.is_sound).few_activities a.declared;
     }

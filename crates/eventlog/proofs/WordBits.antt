@@ -15,13 +15,12 @@ use Rattle.std.specs.List.{fold}
 use Rattle.std.proofs.lemmas.Nat.{or_lt, pow_below}
 use Rattle.std.proofs.lemmas.Nat.Bits.{bit_at_lowest, bit_at-suc, bit_at-zero, bit_at-pow_same, bit_at-pow_other, bit_at_or, bit_at_above, bit_at-lt, same_from_bits, same_from_bits_below}
 use Rattle.base.specs.Lists.{non_empty, range}
-use Rattle.std.proofs.lemmas.List.Folds.{fold-map}
 use Rattle.base.proofs.Bools.{either, clash, and_left, and_right}
 use Rattle.base.proofs.Lists.{range_at}
 use Rattle.declare.specs.Traces.{most_activities, all_below}
 use Rattle.declare.specs.Meaning.{occurs}
 use Rattle.declare.proofs.Occurrence.{occurs_append, undeclared_nowhere}
-use Rattle.eventlog.specs.Words.{from_bits, word_of, bit_of, with_bit, has, JustItsBits}
+use Rattle.eventlog.specs.Words.{from_bits, word_of, with_bit, has, JustItsBits}
 
 -- ## Numbers by their bits
 
@@ -176,26 +175,13 @@ folded trace = ap (λ before. fold with_bit before trace) (sym word_of_none) ∙
 abbrev pub low : ℕ → ℕ
 low event = event % most_activities
 
-one_low : (event : ℕ) → 2 ^ low event ≡ bit_of (low event)
-one_low event = sym (word_alone (low event) ∙ rw (lt-ltb (low event) most_activities (omega arith)))
-
 -- a word with the bit of an event's lowest five bits
-abbrev pub with_low_bit : ℕ → ℕ → ℕ
-with_low_bit word event = bit_or word (2 ^ low event)
-
-pub one_low_more : (trace : List ℕ) (event : ℕ) → with_low_bit (word_of (map low trace)) event ≡ word_of (map low (trace ++ (event ∷ [])))
+pub one_low_more :
+    (trace : List ℕ) (event : ℕ) → bit_or (word_of (map low trace)) (2 ^ low event) ≡ word_of (map low (trace ++ (event ∷ [])))
 one_low_more trace event =
-    ap (bit_or (word_of (map low trace))) (one_low event)
+    ap (bit_or (word_of (map low trace))) (sym (word_alone (low event) ∙ rw (lt-ltb (low event) most_activities (omega arith))))
     ∙ one_more (map low trace) (low event)
     ∙ ap word_of (sym (map-append low trace (event ∷ [])))
-
-pub folded_low : (trace : List ℕ) → fold with_low_bit 0 trace ≡ word_of (map low trace)
-folded_low trace = on 0 trace ∙ sym (fold-map with_bit low 0 trace) ∙ folded (map low trace)
-  where
-    on : (word : ℕ) (trace : List ℕ) → fold with_low_bit word trace ≡ fold (λ w event. with_bit w (low event)) word trace
-    on word [] = refl
-    on word (event ∷ trace) =
-        ap (λ bit. fold with_low_bit (bit_or word bit) trace) (one_low event) ∙ on (with_bit word (low event)) trace
 
 pub low_declared : (n : ℕ) (trace : List ℕ) → n ≤ most_activities → all_below n trace ≡ true → map low trace ≡ trace
 low_declared n [] few declared = refl

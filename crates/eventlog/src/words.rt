@@ -1,6 +1,5 @@
 // A trace's word: which activities occur in it (document 02: a run's step word).
-ghost use Rattle.std.specs.Prelude.{◌≡◌, ◌%◌, map};
-ghost use Rattle.declare.specs.Traces.{most_activities};
+ghost use Rattle.std.specs.Prelude.{◌≡◌};
 ghost use Rattle.eventlog.specs.Words.{word_of as word, bit_of, with_bit};
 
 use declare::MOST_ACTIVITIES;
@@ -23,11 +22,8 @@ pub fn with_bit(word: u32, activity: u8) -> u32
     word | bit_of(activity)
 }
 
-// The word of a trace whose events are declared: by their lowest five bits, which are then all that they have, and with no test for each.
-pub(crate) fn word_of_declared(trace: &[u8]) -> u32
-    ensures { result ≡ word (map (λ event. event % most_activities) trace.now) }
+pub(crate) fn word_of(trace: &[u8]) -> u32
+    ensures { result ≡ word trace.now }
 {
-    trace
-        .iter()
-        .fold(0, |word, &event| word | 1 << (event % 32))
+    trace.iter().fold(0, |word, &event| with_bit(word, event))
 }

@@ -31,7 +31,4 @@ overflow_add-store c =
     omega arith
 
 pub returns : goal.returns
-returns c =
-    let m = lent c.args.store.now c.args.events.now c.args.ends.now c.args.words.now in
-    let same = (bounds m c.args.trace.now c.requires.accepted c.requires.place).low_bits in
-    simp (c.copy_in.ensures, c.requires.place, c.word_of_declared.ensures, same)
+returns c = simp (c.copy_in.ensures, c.requires.place, c.word_of.ensures)

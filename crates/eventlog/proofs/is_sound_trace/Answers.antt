@@ -1,11 +1,8 @@
-use Rattle.std.proofs.Common.{arith, refl, sym, ap, ◌∙◌, take, get_or, map}
+use Rattle.std.proofs.Common.{arith, refl, sym, ap, ap₂, ◌∙◌, ◌&&◌, ltb, take, get_or, map}
 use lib.Seq.{take-suc}
 use native.Mathlib.Numerals.{add-one}
 use Rattle.std.specs.Prelude.{bit_or}
 use Rattle.std.proofs.lemmas.Nat.{one_shl}
-use borrow.Author.Tests.{lt-ltb}
-use Rattle.std.proofs.Math.Seq.{take_all}
-use Rattle.base.proofs.Bools.{and_both}
 use Rattle.base.proofs.Lists.{all_last}
 use Rattle.declare.specs.Traces.{all_below}
 use Rattle.eventlog.specs.Words.{word_of}
@@ -22,17 +19,11 @@ loop-event-preserved c =
     let more = ap (λ k. take k trace) (add-one i) ∙ take-suc trace i 0 c.loop-event-test.true in
     record {
       declared =
-          ap (all_below c.args.n) more
-          ∙ all_last _ (take i trace) (get_or trace i 0)
-          ∙ and_both _ _ c.loop-event.invariant.declared (lt-ltb _ _ (omega (arith, c.from.ensures, c.if-n-from.false)));
+          ap₂ (λ before event. before && ltb event c.args.n) c.loop-event.invariant.declared c.from.ensures
+          ∙ sym (ap (all_below c.args.n) more ∙ all_last _ (take i trace) (get_or trace i 0));
       made =
           rw c.loop-event.invariant.made
           (ap (bit_or (word_of (map low (take i trace)))) (one_shl (low (get_or trace i 0)) 32 (omega arith))
           ∙ one_low_more (take i trace) (get_or trace i 0)
           ∙ ap (λ events. word_of (map low events)) (sym more));
     }
-
-pub returns : goal.returns
-returns c =
-    let all = take_all c.loop-event.event-index c.args.trace.now c.loop-event-test.false in
-    rw (rw all at c.loop-event.invariant.declared, rw all at c.loop-event.invariant.made)
